@@ -1,0 +1,174 @@
+-- The P cards of 01's "Bench cards": one list under one proof, computed. A card is what the definitions give and what
+-- 01 says, as lists of numbers.
+-- Assumes nothing.
+use Prim.Native.Nat.{ℕ}
+use mathlib.Core.Path.{_≡_, refl}
+use mathlib.Core.Bool.{Bool, true, false}
+use mathlib.Core.List.{List, [], _∷_, _++_, map}
+use Rattle.quorum.specs.Sets.{inMask}
+use Rattle.quorum.specs.Votes.{quorum, builtIn}
+use Rattle.model.specs.Hall.{Entries, Service, Hall}
+use Rattle.model.specs.Answers.{plain}
+use Rattle.model.specs.Opening.{Opening, openRefusal, opened}
+use Rattle.model.specs.Call.{Words, hl3, broken, call}
+use Rattle.model.specs.Run.{run, answers}
+use Rattle.model.specs.RunFile.{RunText, fileBytes}
+use Rattle.model.specs.Listing.{listing}
+use Rattle.model.specs.Computing.{computing}
+
+pub record Card : Type 0 where
+  pub given : List ℕ
+  pub wanted : List ℕ
+
+abbrev pub opening : ℕ → ℕ → Opening
+opening n founders = record { size = n; founders = founders }
+
+abbrev pub words : ℕ → ℕ → ℕ → ℕ → Words
+words k r a b = record { k = k; r = r; a = a; b = b }
+
+-- the numbers of the answers to a list of calls on the hall of an opening
+unfoldable pub numbersOf : Opening → List Words → List ℕ
+numbersOf o ws = map (λ x. plain x .number) (answers hl3 (opened o) ws)
+
+-- is the set with mask b a quorum of n recorders? 1 or 0
+unfoldable pub quorumCard : ℕ → ℕ → ℕ
+quorumCard n b = elim (quorum builtIn n (inMask b)) [ true ↦ 1 | false ↦ 0 ]
+
+-- "N = 1, founders 1, and actions submit 700, label, send, place in view 1, receive, safe, confirm, deliver, deliver"
+unfoldable pub listingRun : RunText
+listingRun =
+    record {
+      opening = opening 1 1;
+      actions =
+          words 1 1 700 0
+          ∷ words 2 1 0 0
+          ∷ words 3 1 0 0
+          ∷ words 7 1 1 0
+          ∷ words 8 1 0 0
+          ∷ words 9 1 0 0
+          ∷ words 10 1 0 0
+          ∷ words 11 1 0 0
+          ∷ words 11 1 0 0
+          ∷ [];
+    }
+
+-- the listing that 01 prints for it
+unfoldable pub listingText : List ℕ
+listingText =
+    104 ∷ 97 ∷ 108 ∷ 108 ∷ 32 ∷ 49 ∷ 10 ∷  -- hall 1
+    49 ∷ 32 ∷ 49 ∷ 32 ∷ 111 ∷ 107 ∷ 10 ∷  -- 1 1 ok
+    50 ∷ 32 ∷ 50 ∷ 32 ∷ 111 ∷ 107 ∷ 10 ∷  -- 2 2 ok
+    51 ∷ 32 ∷ 51 ∷ 32 ∷ 111 ∷ 107 ∷ 10 ∷  -- 3 3 ok
+    52 ∷ 32 ∷ 55 ∷ 32 ∷ 111 ∷ 107 ∷ 10 ∷  -- 4 7 ok
+    53 ∷ 32 ∷ 56 ∷ 32 ∷ 101 ∷ 110 ∷ 116 ∷ 114 ∷ 121 ∷ 32 ∷ 49 ∷ 46 ∷ 49 ∷ 46 ∷ 49 ∷ 32 ∷ 55 ∷ 48 ∷ 48 ∷ 10 ∷  -- 5 8 entry 1.1.1 700
+    54 ∷ 32 ∷ 57 ∷ 32 ∷ 101 ∷ 110 ∷ 116 ∷ 114 ∷ 121 ∷ 32 ∷ 49 ∷ 46 ∷ 49 ∷ 46 ∷ 49 ∷ 32 ∷ 55 ∷ 48 ∷ 48 ∷ 10 ∷  -- 6 9 entry 1.1.1 700
+    55 ∷ 32 ∷ 49 ∷ 48 ∷ 32 ∷ 111 ∷ 107 ∷ 10 ∷  -- 7 10 ok
+    56 ∷ 32 ∷ 49 ∷ 49 ∷ 32 ∷ 102 ∷ 114 ∷ 111 ∷ 109 ∷ 32 ∷ 49 ∷ 32 ∷ 55 ∷ 48 ∷ 48 ∷ 10 ∷  -- 8 11 from 1 700
+    57 ∷ 32 ∷ 49 ∷ 49 ∷ 32 ∷ 114 ∷ 101 ∷ 102 ∷ 117 ∷ 115 ∷ 101 ∷ 100 ∷ 32 ∷ 51 ∷ 56 ∷ 10 ∷  -- 9 11 refused 38
+    101 ∷ 110 ∷ 100 ∷ 32 ∷ 56 ∷ 32 ∷ 49 ∷ 10 ∷  -- end 8 1
+    []
+
+-- "P the listing."
+unfoldable pub listingCard : Card
+listingCard = record { given = listing hl3 (fileBytes listingRun); wanted = listingText }
+
+-- "P N 0 and 9: 16; 8 opens."
+unfoldable pub sizeCard : Card
+sizeCard =
+    record {
+      given = openRefusal (opening 0 0) ∷ openRefusal (opening 9 0) ∷ openRefusal (opening 8 0) ∷ [];
+      wanted = 16 ∷ 16 ∷ 0 ∷ [];
+    }
+
+-- "P N 3, founders 0: view 1 is {1, 2, 3}; founders 8: 16."
+unfoldable pub foundersCard : Card
+foundersCard =
+    record {
+      given = openRefusal (opening 3 8) ∷ openRefusal (opening 3 0) ∷ opened (opening 3 0) .service .members 1;
+      wanted = 16 ∷ 0 ∷ 1 ∷ 2 ∷ 3 ∷ [];
+    }
+
+-- "P N 3: {2, 3} no quorum, {1, 2} one. P N 4: {2, 3, 4} one, {3, 4} none."
+unfoldable pub quorumCards : Card
+quorumCards =
+    record {
+      given = quorumCard 3 6 ∷ quorumCard 3 3 ∷ quorumCard 4 14 ∷ quorumCard 4 12 ∷ [];
+      wanted = 0 ∷ 1 ∷ 1 ∷ 0 ∷ [];
+    }
+
+-- "P numbers 0 and 256: 14; 255 forms, then 255 again: 33."
+unfoldable pub numberCard : Card
+numberCard =
+    record {
+      given = numbersOf (opening 3 0) (words 5 0 0 1 ∷ words 5 0 256 1 ∷ words 5 0 255 1 ∷ words 5 0 255 1 ∷ []);
+      wanted = 14 ∷ 14 ∷ 0 ∷ 33 ∷ [];
+    }
+
+-- "P enter 2 from 3: 36."
+unfoldable pub enterCard : Card
+enterCard =
+    record {
+      given = numbersOf (opening 3 0) (words 5 0 2 1 ∷ words 5 0 3 1 ∷ words 6 1 3 0 ∷ words 6 1 2 0 ∷ []);
+      wanted = 0 ∷ 0 ∷ 0 ∷ 36 ∷ [];
+    }
+
+-- "P enter a new one-member view, submit, label: 37; after its summary is sent, placed and received: labelled."
+unfoldable pub labelCalls : List Words
+labelCalls =
+    words 5 0 2 1
+    ∷ words 6 1 2 0
+    ∷ words 1 1 5 0
+    ∷ words 2 1 0 0
+    ∷ words 4 1 0 0
+    ∷ words 7 1 2 0
+    ∷ words 8 1 0 0
+    ∷ words 2 1 0 0
+    ∷ []
+
+-- the answers, then the view and sequence number of the entry's label
+unfoldable pub labelCard : Card
+labelCard =
+    let es = run hl3 (opened (opening 3 0)) labelCalls .entries in
+    record {
+      given = numbersOf (opening 3 0) labelCalls ++ (es .labelView 1 ∷ es .labelSeq 1 ∷ []);
+      wanted = 0 ∷ 0 ∷ 0 ∷ 37 ∷ 0 ∷ 0 ∷ 0 ∷ 0 ∷ 2 ∷ 1 ∷ [];
+    }
+
+-- "P kind 12 on broken bytes: 11." (and kind 1 there: 31) "P kind 6, R 9, A 0: 12."
+unfoldable pub orderCard : Card
+orderCard =
+    record {
+      given =
+          plain (call hl3 broken (words 12 0 0 0) .answer) .number
+          ∷ plain (call hl3 broken (words 1 0 0 0) .answer) .number
+          ∷ numbersOf (opening 3 0) (words 6 9 0 0 ∷ []);
+      wanted = 11 ∷ 31 ∷ 12 ∷ [];
+    }
+
+-- "P safe before the other member received: 39."
+unfoldable pub safeCard : Card
+safeCard =
+    record {
+      given =
+          numbersOf (opening 2 0)
+          (words 1 1 5 0 ∷ words 2 1 0 0 ∷ words 3 1 0 0 ∷ words 7 1 1 0 ∷ words 8 1 0 0 ∷ words 9 1 0 0 ∷ []);
+      wanted = 0 ∷ 0 ∷ 0 ∷ 0 ∷ 0 ∷ 39 ∷ [];
+    }
+
+unfoldable pub cards : List Card
+cards =
+    listingCard
+    ∷ sizeCard
+    ∷ foundersCard
+    ∷ quorumCards
+    ∷ numberCard
+    ∷ enterCard
+    ∷ labelCard
+    ∷ orderCard
+    ∷ safeCard
+    ∷ []
+
+-- every card is as 01 says
+pub cards-hold : map (λ c. c .given) cards ≡ map (λ c. c .wanted) cards
+unfolding computing numbersOf quorumCard listingRun listingText listingCard sizeCard foundersCard quorumCards numberCard enterCard labelCalls labelCard orderCard safeCard cards
+cards-hold = refl
