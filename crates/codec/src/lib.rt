@@ -1,0 +1,167 @@
+// Stored forms (specs/): numbers, flags, bounded lists, pairs, cells, tables, each with its laws; and the code
+// that gets and puts bytes, words and byte lists at an offset of a byte slice.
+// These functions are for the crates of this repository: a `requires` is met by each caller's proof.
+ghost use mathlib.Core.Path.{_≡_};
+ghost use Prim.Native.Nat.{_+_, _-_, _≤_, _<_};
+ghost use lib.ListN.{length, getD, take};
+ghost use lib.Seq.{sets};
+ghost use Rattle.codec.specs.Bytes.{part, zeros, allZero};
+ghost use Rattle.codec.specs.Number.{digits, value, byte};
+ghost use Rattle.codec.specs.Bounded.{bounded};
+ghost use Rattle.codec.specs.ByteList.{items, listAt, listBytes, allIn};
+
+// The byte at an offset.
+pub fn get_byte(b: &[u8], at: usize) -> u8
+    requires { ⌜ at < length (now b) ⌝ }
+    ensures { λ r. ⌜ r ≡ value (part at 1 (now (b .entry))) ⌝ }
+{
+    b[at]
+}
+
+// Writes the byte at an offset.
+pub fn put_byte(b: &mut [u8], at: usize, v: u8)
+    requires { ⌜ at < length (now b) ⌝ }
+    ensures { λ _. ⌜ now (b .exit) ≡ sets (now (b .entry)) at (digits 1 v) ⌝ }
+{
+    b[at] = v;
+}
+
+// A byte as a word.
+fn wide(x: u8) -> u32
+    ensures { λ r. ⌜ (r ≡ x) × (x < 256) ⌝ }
+{
+    x as u32
+}
+
+// The 32-bit word at an offset, little-endian.
+pub fn get_u32(b: &[u8], at: usize) -> u32
+    requires { ⌜ at + 4 ≤ length (now b) ⌝ }
+    ensures { λ r. ⌜ r ≡ value (part at 4 (now (b .entry))) ⌝ }
+{
+    wide(b[at]) + 256 * (wide(b[at + 1]) + 256 * (wide(b[at + 2]) + 256 * wide(b[at + 3])))
+}
+
+// Writes the 32-bit word at an offset, little-endian.
+pub fn put_u32(b: &mut [u8], at: usize, v: u32)
+    requires { ⌜ at + 4 ≤ length (now b) ⌝ }
+    ensures { λ _. ⌜ now (b .exit) ≡ sets (now (b .entry)) at (digits 4 v) ⌝ }
+{
+    let w1 = v / 256;
+    let w2 = w1 / 256;
+    let w3 = w2 / 256;
+    b[at] = (v % 256) as u8;
+    b[at + 1] = (w1 % 256) as u8;
+    b[at + 2] = (w2 % 256) as u8;
+    b[at + 3] = (w3 % 256) as u8;
+}
+
+// Are the bytes from an offset up to another all 0?
+pub fn is_zero(b: &[u8], from: usize, to: usize) -> bool
+    requires { ⌜ (from ≤ to) × (to ≤ length (now b)) ⌝ }
+    ensures { λ r. ⌜ r ≡ allZero (part from (to - from) (now (b .entry))) ⌝ }
+{
+    let mut any: u8 = 0;
+    let mut i = from;
+    while i < to {
+        any = any | b[i];
+        i += 1;
+    }
+    any == 0
+}
+
+// Writes 0 to the bytes from an offset up to another.
+pub fn clear(b: &mut [u8], from: usize, to: usize)
+    requires { ⌜ (from ≤ to) × (to ≤ length (now b)) ⌝ }
+    ensures { λ _. ⌜ now (b .exit) ≡ sets (now (b .entry)) from (zeros (to - from)) ⌝ }
+{
+    let mut i = from;
+    while i < to {
+        b[i] = 0;
+        i += 1;
+    }
+}
+
+// Writes the first n bytes of s at an offset.
+pub fn put_bytes(b: &mut [u8], at: usize, s: &[u8], n: usize)
+    requires { ⌜ (n ≤ length (now s)) × (at + n ≤ length (now b)) ⌝ }
+    ensures { λ _. ⌜ now (b .exit) ≡ sets (now (b .entry)) at (take n (now (s .entry))) ⌝ }
+{
+    let mut i = 0;
+    while i < n {
+        b[at + i] = s[i];
+        i += 1;
+    }
+}
+
+// Are the bytes from an offset up to another all in lo .. hi?
+pub fn all_in(b: &[u8], from: usize, to: usize, lo: u8, hi: u8) -> bool
+    requires { ⌜ (from ≤ to) × (to ≤ length (now b)) ⌝ }
+    ensures { λ r. ⌜ r ≡ allIn lo hi (part from (to - from) (now (b .entry))) ⌝ }
+{
+    let mut i = from;
+    while i < to {
+        let x = b[i];
+        if x < lo {
+            return false;
+        }
+        if hi < x {
+            return false;
+        }
+        i += 1;
+    }
+    true
+}
+
+// A list of at most 72 bytes: the first `len` of `places`. Where it is stored it has a capacity of its own,
+// which may be less.
+pub struct ByteList {
+    pub places: [u8; 72],
+    pub len: usize,
+}
+
+// The byte list at an offset.
+pub fn get_list(b: &[u8], at: usize) -> ByteList
+    requires { ⌜ (at < length (now b)) × ((getD (now b) at 0 ≤ 72) × (at + 1 + getD (now b) at 0 ≤ length (now b))) ⌝ }
+    ensures { λ r. ⌜ (r .len ≡ getD (now (b .entry)) at 0) × (items r ≡ listAt (now (b .entry)) at) ⌝ }
+{
+    let n = b[at] as usize;
+    let from = at + 1;
+    let mut places = [0u8; 72];
+    let mut i = 0;
+    while i < n {
+        places[i] = b[from + i];
+        i += 1;
+    }
+    ByteList { places, len: n }
+}
+
+// Writes a byte list at an offset where it has room for cap bytes, with zeros past its own.
+pub fn put_list(b: &mut [u8], at: usize, cap: usize, l: ByteList)
+    requires { ⌜ (l .len ≤ cap) × ((cap ≤ 72) × (at + (1 + cap) ≤ length (now b))) ⌝ }
+    ensures { λ _. ⌜ now (b .exit) ≡ sets (now (b .entry)) at (listBytes cap (items l)) ⌝ }
+{
+    let n = l.len;
+    let places = l.places;
+    let from = at + 1;
+    b[at] = n as u8;
+    put_bytes(b, from, &places, n);
+    clear(b, from + n, from + cap);
+}
+
+// Is a byte list with room for cap bytes, each in lo .. hi, stored at an offset?
+pub fn valid_list(b: &[u8], at: usize, cap: usize, lo: u8, hi: u8) -> bool
+    requires { ⌜ at + (1 + cap) ≤ length (now b) ⌝ }
+    ensures { λ r. ⌜ r ≡ bounded (byte lo hi) cap .valid (part at (1 + cap) (now (b .entry))) ⌝ }
+{
+    let n = b[at] as usize;
+    if cap < n {
+        return false;
+    }
+    let from = at + 1;
+    let end = from + n;
+    if all_in(b, from, end, lo, hi) {
+        is_zero(b, end, from + cap)
+    } else {
+        false
+    }
+}
