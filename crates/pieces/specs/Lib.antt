@@ -1,0 +1,9 @@
+pub mod Chain
+pub mod Entries
+pub mod Flags
+pub mod Lists
+pub mod Messages
+pub mod Numbers
+pub mod Places
+pub mod Recorders
+pub mod Summaries

@@ -1,0 +1,66 @@
+-- The fields, and the label. Assumes nothing.
+use denote.Ref.{now}
+use native.Mathlib.Omega.{arith}
+use mathlib.Core.Path.{refl}
+use Rattle.ranges.specs.CellParts.{entry-part}
+use borrow.Author.Needs.{needs}
+use Rattle.ranges.proofs.valid_entry.Statement.{statement}
+use Rattle.ranges.proofs.valid_entry.Tie as tie
+
+add-view : tie.Need-add-view
+add-view c = search needs
+
+add-view-2 : tie.Need-add-view-2
+add-view-2 c = search needs
+
+add-seq : tie.Need-add-seq
+add-seq c = search needs
+
+valid-byte-requires : tie.Need-valid-byte-requires
+valid-byte-requires c κs = search needs
+
+valid-view-number-requires : tie.Need-valid-view-number-requires
+valid-view-number-requires c κs = search needs
+
+valid-byte-requires-2 : tie.Need-valid-byte-requires-2
+valid-byte-requires-2 c κs = search needs
+
+both-requires : tie.Need-both-requires
+both-requires c κs = search needs
+
+both-requires-2 : tie.Need-both-requires-2
+both-requires-2 c κs = search needs
+
+get-u32-requires : tie.Need-get-u32-requires
+get-u32-requires c κs = search needs
+
+shared-slice-read-whole-label : tie.Need-shared-slice-read-whole-label
+shared-slice-read-whole-label c = search needs
+
+whole-label-requires : tie.Need-whole-label-requires
+whole-label-requires c κs = search needs
+
+both-requires-3 : tie.Need-both-requires-3
+both-requires-3 c κs = search needs
+
+returns : tie.Need-returns
+returns c =
+    cc (entry-part (c .before .before .before .before .before .before .before .before .before .before .args .n) (c .before .before .before .before .before .before .before .before .before .before .args .at) (now (c .before .before .before .before .before .before .before .before .before .before .args .b)) (c .before .before .before .before .before .before .before .before .before .before .pre) (record { len = refl; byte = λ i. omega (arith, c .before .before .before .before .before .before .before .before .before .shared-slice-known .given i) }))
+
+pub valid-entry-spec : {M : Type 1} → statement M
+valid-entry-spec =
+    tie.close
+    (tie.spec
+    add-view
+    add-view-2
+    add-seq
+    valid-byte-requires
+    valid-view-number-requires
+    valid-byte-requires-2
+    both-requires
+    both-requires-2
+    get-u32-requires
+    shared-slice-read-whole-label
+    whole-label-requires
+    both-requires-3
+    returns)

@@ -1,0 +1,4 @@
+pub mod Parts
+pub mod Loops
+pub mod CellParts
+pub mod TableParts

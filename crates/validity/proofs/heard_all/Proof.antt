@@ -1,0 +1,67 @@
+-- The invariant: the numbers passed have it. Assumes nothing.
+use borrow.Author.Needs.{needs}
+use denote.Ref.{now}
+use Prim.Native.Nat.{_-_, _≤_}
+use mathlib.Core.Path.{_≡_, sym, _∙_}
+use mathlib.Core.Bool.{true}
+use borrow.Author.Tests.{not-true, not-false}
+use Rattle.quorum.specs.Sets.{recorders}
+use Rattle.model.specs.Base.{all}
+use Rattle.validity.specs.Alls.{all-none, all-next, all-fail, all-done}
+use lib.ListN.{getD}
+use Rattle.validity.specs.Marks.{heardOk}
+use Rattle.validity.proofs.heard_all.Statement.{statement}
+use Rattle.validity.proofs.heard_all.Tie as tie
+
+abbrev Inv-loop : tie.InvT-loop
+Inv-loop b at set i j₀ j = (j ≤ 8) × (all (heardOk b at (getD b 0 0) set i) (recorders j) ≡ true)
+
+abbrev μ-loop : tie.MeasureT-loop
+μ-loop b at set i j₀ j = 8 - j
+
+loop-holds : tie.Need-loop-holds Inv-loop μ-loop
+loop-holds c =
+    let a = c .before .args in
+    (search needs, all-none (heardOk (now (a .b)) (a .at) (getD (now (a .b)) 0 0) (a .set) (a .i)))
+
+add-heard-one : tie.Need-add-heard-one Inv-loop μ-loop
+add-heard-one c = search needs
+
+heard-one-requires : tie.Need-heard-one-requires Inv-loop μ-loop
+heard-one-requires c κs = search needs
+
+returns : tie.Need-returns Inv-loop μ-loop
+returns c =
+    let a = c .before .before .before .before .before .args in
+    sym (all-fail (heardOk (now (a .b)) (a .at) (getD (now (a .b)) 0 0) (a .set) (a .i)) 8 (c .before .before .before .loop .j) (c .before .before .loop-test .taken) (sym (c .before .heard-one .ensures) ∙ not-true (c .before .heard-one .result) (c .if1 .taken)))
+
+add-j : tie.Need-add-j Inv-loop μ-loop
+add-j c = search needs
+
+loop-less : tie.Need-loop-less Inv-loop μ-loop
+loop-less c = search needs
+
+loop-again : tie.Need-loop-again Inv-loop μ-loop
+loop-again c =
+    let a = c .before .before .before .before .before .args in
+    (search needs, all-next (heardOk (now (a .b)) (a .at) (getD (now (a .b)) 0 0) (a .set) (a .i)) (c .before .before .before .loop .j) (c .before .before .before .loop .inv .1) (sym (c .before .heard-one .ensures) ∙ not-false (c .before .heard-one .result) (c .if1 .left)))
+
+returns-2 : tie.Need-returns-2 Inv-loop μ-loop
+returns-2 c =
+    let a = c .before .before .before .args in
+    sym (all-done (heardOk (now (a .b)) (a .at) (getD (now (a .b)) 0 0) (a .set) (a .i)) 8 (c .before .loop .j) (c .before .loop .inv .0) (c .loop-test .left) (c .before .loop .inv .1))
+
+pub heard-all-spec : {M : Type 1} → statement M
+heard-all-spec =
+    tie.close
+    (tie.spec
+    Inv-loop
+    μ-loop
+    loop-holds
+    add-heard-one
+    heard-one-requires
+    returns
+    add-j
+    loop-less
+    loop-again
+    returns-2)

@@ -1,0 +1,66 @@
+-- The invariant: the numbers passed have it. Assumes nothing.
+use borrow.Author.Needs.{needs}
+use denote.Ref.{now}
+use Prim.Native.Nat.{_-_, _≤_}
+use mathlib.Core.Path.{_≡_, sym, _∙_}
+use mathlib.Core.Bool.{true}
+use borrow.Author.Tests.{not-true, not-false}
+use Rattle.quorum.specs.Sets.{recorders}
+use Rattle.model.specs.Base.{all}
+use Rattle.validity.specs.Alls.{all-none, all-next, all-fail, all-done}
+use Rattle.validity.specs.Marks.{setOk}
+use Rattle.validity.proofs.names_set.Statement.{statement}
+use Rattle.validity.proofs.names_set.Tie as tie
+
+abbrev Inv-loop : tie.InvT-loop
+Inv-loop b at labels j₀ j = (j ≤ 64) × (all (setOk labels b at) (recorders j) ≡ true)
+
+abbrev μ-loop : tie.MeasureT-loop
+μ-loop b at labels j₀ j = 64 - j
+
+loop-holds : tie.Need-loop-holds Inv-loop μ-loop
+loop-holds c =
+    let a = c .before .args in
+    (search needs, all-none (setOk (now (a .labels)) (now (a .b)) (a .at)))
+
+add-in-set : tie.Need-add-in-set Inv-loop μ-loop
+add-in-set c = search needs
+
+in-set-requires : tie.Need-in-set-requires Inv-loop μ-loop
+in-set-requires c κs = search needs
+
+returns : tie.Need-returns Inv-loop μ-loop
+returns c =
+    let a = c .before .before .before .before .before .args in
+    sym (all-fail (setOk (now (a .labels)) (now (a .b)) (a .at)) 64 (c .before .before .before .loop .j) (c .before .before .loop-test .taken) (sym (c .before .in-set .ensures) ∙ not-true (c .before .in-set .result) (c .if1 .taken)))
+
+add-j : tie.Need-add-j Inv-loop μ-loop
+add-j c = search needs
+
+loop-less : tie.Need-loop-less Inv-loop μ-loop
+loop-less c = search needs
+
+loop-again : tie.Need-loop-again Inv-loop μ-loop
+loop-again c =
+    let a = c .before .before .before .before .before .args in
+    (search needs, all-next (setOk (now (a .labels)) (now (a .b)) (a .at)) (c .before .before .before .loop .j) (c .before .before .before .loop .inv .1) (sym (c .before .in-set .ensures) ∙ not-false (c .before .in-set .result) (c .if1 .left)))
+
+returns-2 : tie.Need-returns-2 Inv-loop μ-loop
+returns-2 c =
+    let a = c .before .before .before .args in
+    sym (all-done (setOk (now (a .labels)) (now (a .b)) (a .at)) 64 (c .before .loop .j) (c .before .loop .inv .0) (c .loop-test .left) (c .before .loop .inv .1))
+
+pub names-set-spec : {M : Type 1} → statement M
+names-set-spec =
+    tie.close
+    (tie.spec
+    Inv-loop
+    μ-loop
+    loop-holds
+    add-in-set
+    in-set-requires
+    returns
+    add-j
+    loop-less
+    loop-again
+    returns-2)

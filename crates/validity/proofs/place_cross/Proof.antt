@@ -1,0 +1,103 @@
+-- By whether the recorder is a member. Assumes nothing.
+use denote.Ref.{now}
+use Prim.Native.Nat.{ℕ}
+use mathlib.Core.Path.{sym, ap, ap₂, _∙_}
+use mathlib.Core.Bool.{Bool, not, _&&_}
+use lib.Dec.{eqb}
+use lib.ListN.{getD}
+use Rattle.codec.specs.ByteList.{listAt}
+use Rattle.quorum.specs.Sets.{has, members}
+use Rattle.model.specs.Base.{all}
+use Rattle.validity.specs.Marks.{messageMarked, placeOff}
+use Rattle.validity.specs.RawHall.{sizeAt}
+use Rattle.validity.specs.CrossParts.{place-member, place-other}
+use borrow.Author.Needs.{needs}
+use Rattle.validity.proofs.place_cross.Statement.{statement}
+use Rattle.validity.proofs.place_cross.Tie as tie
+
+sub-at : tie.Need-sub-at
+sub-at c = search needs
+
+mul-at : tie.Need-mul-at
+mul-at c = search needs
+
+add-at : tie.Need-add-at
+add-at c = search needs
+
+mul-at-2 : tie.Need-mul-at-2
+mul-at-2 c = search needs
+
+add-at-2 : tie.Need-add-at-2
+add-at-2 c = search needs
+
+is-sent-requires : tie.Need-is-sent-requires
+is-sent-requires c κs = search needs
+
+shared-slice-read-is-member : tie.Need-shared-slice-read-is-member
+shared-slice-read-is-member c = search needs
+
+view-set-requires : tie.Need-view-set-requires
+view-set-requires c κs = search needs
+
+is-member-requires : tie.Need-is-member-requires
+is-member-requires c κs = search needs
+
+names-all-requires : tie.Need-names-all-requires
+names-all-requires c κs = search needs
+
+names-summary-requires : tie.Need-names-summary-requires
+names-summary-requires c κs = search needs
+
+both-requires : tie.Need-both-requires
+both-requires c κs = search needs
+
+shared-slice-read-both : tie.Need-shared-slice-read-both
+shared-slice-read-both c = search needs
+
+both-requires-2 : tie.Need-both-requires-2
+both-requires-2 c κs = search needs
+
+returns : tie.Need-returns
+returns c =
+    let a = c .before .before .before .before .before .before .before .before .before .args in
+    let h = c .before .before .before .before .before .before .before .before .before .pre in
+    let b = now (a .b) in
+    let l = now (a .labels) in
+    c .both .ensures
+    ∙ ap₂ _&&_ (c .before .before .names-all .ensures ∙ ap (λ (t : Bool). all (messageMarked l t) (listAt b (placeOff (a .p) (a .i)))) (c .before .before .before .before .before .before .before .is-sent .ensures)) (c .before .names-summary .ensures)
+    ∙ sym
+    (place-member b (h .0 .held) l (h .1 .1) (a .i) (h .1 .0) (a .p) (h .1 .2) (h .1 .3)
+    (ap (λ (z : ℕ). has (members (sizeAt b) z) (a .p)) (sym (c .before .before .before .before .before .view-set .ensures)) ∙ sym (c .before .before .before .before .is-member .ensures) ∙ c .before .before .before .if1 .taken))
+
+returns-2 : tie.Need-returns-2
+returns-2 c =
+    let a = c .before .before .before .before .before .before .before .before .args in
+    let h = c .before .before .before .before .before .before .before .before .pre in
+    let b = now (a .b) in
+    let l = now (a .labels) in
+    c .both2 .ensures
+    ∙ ap (λ (t : Bool). eqb (getD b (placeOff (a .p) (a .i)) 0) 0 && not t) (c .before .before .before .before .before .before .is-sent .ensures)
+    ∙ sym
+    (place-other b (h .0 .held) l (h .1 .1) (a .i) (h .1 .0) (a .p) (h .1 .2) (h .1 .3)
+    (ap (λ (z : ℕ). has (members (sizeAt b) z) (a .p)) (sym (c .before .before .before .before .view-set .ensures)) ∙ sym (c .before .before .before .is-member .ensures) ∙ c .before .before .if1 .left))
+
+pub place-cross-spec : {M : Type 1} → statement M
+place-cross-spec =
+    tie.close
+    (tie.spec
+    sub-at
+    mul-at
+    add-at
+    mul-at-2
+    add-at-2
+    is-sent-requires
+    shared-slice-read-is-member
+    view-set-requires
+    is-member-requires
+    names-all-requires
+    names-summary-requires
+    both-requires
+    shared-slice-read-both
+    both-requires-2
+    returns
+    returns-2)

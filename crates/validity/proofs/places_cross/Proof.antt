@@ -1,0 +1,67 @@
+-- The invariant: the numbers passed have it. Assumes nothing.
+use borrow.Author.Needs.{needs}
+use denote.Ref.{now}
+use Prim.Native.Nat.{_-_, _≤_}
+use mathlib.Core.Path.{_≡_, sym, _∙_}
+use mathlib.Core.Bool.{true}
+use borrow.Author.Tests.{not-true, not-false}
+use Rattle.quorum.specs.Sets.{recorders}
+use Rattle.model.specs.Base.{all}
+use Rattle.validity.specs.Alls.{viewAt, all-none, all-next, all-fail, all-done}
+use Rattle.store.specs.Valid.{placeCross}
+use Rattle.validity.specs.RawHall.{raw}
+use Rattle.validity.proofs.places_cross.Statement.{statement}
+use Rattle.validity.proofs.places_cross.Tie as tie
+
+abbrev Inv-loop : tie.InvT-loop
+Inv-loop b i labels n j₀ j = (j ≤ n) × (all (placeCross (raw b) (viewAt b i)) (recorders j) ≡ true)
+
+abbrev μ-loop : tie.MeasureT-loop
+μ-loop b i labels n j₀ j = n - j
+
+loop-holds : tie.Need-loop-holds Inv-loop μ-loop
+loop-holds c =
+    let a = c .before .args in
+    (search needs, all-none (placeCross (raw (now (a .b))) (viewAt (now (a .b)) (a .i))))
+
+add-place-cross : tie.Need-add-place-cross Inv-loop μ-loop
+add-place-cross c = search needs
+
+place-cross-requires : tie.Need-place-cross-requires Inv-loop μ-loop
+place-cross-requires c κs = search needs
+
+returns : tie.Need-returns Inv-loop μ-loop
+returns c =
+    let a = c .before .before .before .before .before .args in
+    sym (all-fail (placeCross (raw (now (a .b))) (viewAt (now (a .b)) (a .i))) (a .n) (c .before .before .before .loop .j) (c .before .before .loop-test .taken) (sym (c .before .place-cross .ensures) ∙ not-true (c .before .place-cross .result) (c .if1 .taken)))
+
+add-j : tie.Need-add-j Inv-loop μ-loop
+add-j c = search needs
+
+loop-less : tie.Need-loop-less Inv-loop μ-loop
+loop-less c = search needs
+
+loop-again : tie.Need-loop-again Inv-loop μ-loop
+loop-again c =
+    let a = c .before .before .before .before .before .args in
+    (search needs, all-next (placeCross (raw (now (a .b))) (viewAt (now (a .b)) (a .i))) (c .before .before .before .loop .j) (c .before .before .before .loop .inv .1) (sym (c .before .place-cross .ensures) ∙ not-false (c .before .place-cross .result) (c .if1 .left)))
+
+returns-2 : tie.Need-returns-2 Inv-loop μ-loop
+returns-2 c =
+    let a = c .before .before .before .args in
+    sym (all-done (placeCross (raw (now (a .b))) (viewAt (now (a .b)) (a .i))) (a .n) (c .before .loop .j) (c .before .loop .inv .0) (c .loop-test .left) (c .before .loop .inv .1))
+
+pub places-cross-spec : {M : Type 1} → statement M
+places-cross-spec =
+    tie.close
+    (tie.spec
+    Inv-loop
+    μ-loop
+    loop-holds
+    add-place-cross
+    place-cross-requires
+    returns
+    add-j
+    loop-less
+    loop-again
+    returns-2)

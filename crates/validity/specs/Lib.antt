@@ -1,0 +1,7 @@
+pub mod Alls
+pub mod Marks
+pub mod Values
+pub mod RawHall
+pub mod RawCells
+pub mod CrossParts
+pub mod CodeLaws

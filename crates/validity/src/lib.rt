@@ -1,0 +1,424 @@
+// Is a byte slice the stored form of a hall? Each field in its range (crate ranges), and the cross rules.
+ghost use mathlib.Core.Path.{_≡_};
+ghost use mathlib.Core.Bool.{_&&_, _||_};
+ghost use Prim.Native.Nat.{_+_, _-_, _*_, _≤_, _<_};
+ghost use lib.Dec.{eqb};
+ghost use lib.ListN.{length, getD};
+ghost use Rattle.codec.specs.Bytes.{part};
+ghost use Rattle.codec.specs.ByteList.{listAt};
+ghost use Rattle.quorum.specs.Sets.{has, members, recorders};
+ghost use Rattle.model.specs.Base.{all};
+ghost use Rattle.store.specs.Valid.{labelsApart, queueNames, recorderCross, placeCross, crossRules};
+ghost use Rattle.store.specs.StoredForm.{isStored};
+ghost use Rattle.ranges.specs.TableParts.{viewNumbers};
+ghost use Rattle.validity.specs.Alls.{viewAt, Found};
+ghost use Rattle.validity.specs.Marks.{marked, messageMarked, sentAt, setOk, sourceOk, heardOk};
+ghost use Rattle.validity.specs.RawHall.{Ranged, raw, sizeAt, viewCount, entryCount, setAt};
+ghost use Rattle.validity.specs.CrossParts.{Labels, queuedOk, summaryOk, apart, viewCross};
+
+// Do both hold?
+fn both(a: bool, b: bool) -> bool
+    ensures { λ r. ⌜ r ≡ a && b ⌝ }
+{
+    if a { b } else { false }
+}
+
+// Is entry x labelled? `labels` has the sequence number of each entry's label, 0 for none.
+fn is_marked(labels: &[u8; 64], x: u8) -> bool
+    ensures { λ r. ⌜ r ≡ marked (now (labels .entry)) x ⌝ }
+{
+    if x < 1 {
+        return false;
+    }
+    if 64 < x {
+        return false;
+    }
+    labels[(x - 1) as usize] != 0
+}
+
+// Is a message a labelled entry, or the summary of a source that sent it?
+fn names_message(labels: &[u8; 64], sent: bool, x: u8) -> bool
+    ensures { λ r. ⌜ r ≡ messageMarked (now (labels .entry)) sent x ⌝ }
+{
+    if x == 0 { sent } else { is_marked(labels, x) }
+}
+
+// Does each byte of a list name a labelled entry, or a summary that was sent?
+fn names_all(b: &[u8], at: usize, labels: &[u8; 64], sent: bool) -> bool
+    requires { ⌜ at + 256 ≤ length (now b) ⌝ }
+    ensures { λ r. ⌜ r ≡ all (messageMarked (now (labels .entry)) sent) (listAt (now (b .entry)) at) ⌝ }
+{
+    let from = at + 1;
+    let end = from + b[at] as usize;
+    let mut i = from;
+    while i < end {
+        if !names_message(labels, sent, b[i]) {
+            return false;
+        }
+        i += 1;
+    }
+    true
+}
+
+// If entry e is in the set of flags at an offset, is it labelled?
+fn in_set(b: &[u8], at: usize, labels: &[u8; 64], e: usize) -> bool
+    requires { ⌜ (1 ≤ e) × (e ≤ 64) × (at + 64 ≤ length (now b)) ⌝ }
+    ensures { λ r. ⌜ r ≡ setOk (now (labels .entry)) (now (b .entry)) at e ⌝ }
+{
+    if 1 == b[at + (e - 1)] {
+        is_marked(labels, e as u8)
+    } else {
+        true
+    }
+}
+
+// Are the entries of the set of flags at an offset labelled?
+fn names_set(b: &[u8], at: usize, labels: &[u8; 64]) -> bool
+    requires { ⌜ at + 64 ≤ length (now b) ⌝ }
+    ensures { λ r. ⌜ r ≡ all (setOk (now (labels .entry)) (now (b .entry)) at) (recorders 64) ⌝ }
+{
+    let mut j = 0;
+    while j < 64 {
+        if !in_set(b, at, labels, j + 1) {
+            return false;
+        }
+        j += 1;
+    }
+    true
+}
+
+// Is k, of recorders 1 to n, in a set?
+fn is_member(n: u8, set: u8, k: usize) -> bool
+    requires { ⌜ n ≤ 8 ⌝ }
+    ensures { λ r. ⌜ r ≡ has (members n set) k ⌝ }
+{
+    if k < 1 {
+        return false;
+    }
+    if (n as usize) < k {
+        return false;
+    }
+    let i = (k - 1) as u32;
+    let bits = set as u32;
+    (bits >> i) % 2 == 1
+}
+
+// Did recorder p send its summary in the view at place i?
+fn is_sent(b: &[u8], p: usize, i: usize) -> bool
+    requires { ⌜ (1 ≤ p) × (p ≤ 8) × (i ≤ 32) × (59699 ≤ length (now b)) ⌝ }
+    ensures { λ r. ⌜ r ≡ sentAt (now (b .entry)) p i ⌝ }
+{
+    1 == b[3091 + (p - 1) * 6496 + i * 203 + 68]
+}
+
+// If source q is heard, is it a member and was its summary sent?
+fn heard_one(b: &[u8], at: usize, set: u8, i: usize, q: usize) -> bool
+    requires { ⌜ (1 ≤ q) × (q ≤ 8) × (i ≤ 32) × (at + 8 ≤ length (now b)) × (59699 ≤ length (now b)) × (getD (now b) 0 0 ≤ 8) ⌝ }
+    ensures { λ r. ⌜ r ≡ heardOk (now (b .entry)) at (getD (now (b .entry)) 0 0) set i q ⌝ }
+{
+    if 1 == b[at + (q - 1)] {
+        both(is_member(b[0], set, q), is_sent(b, q, i))
+    } else {
+        true
+    }
+}
+
+// "A source is marked heard only if its summary in the hearer's current view was sent."
+fn heard_all(b: &[u8], at: usize, set: u8, i: usize) -> bool
+    requires { ⌜ (i ≤ 32) × (at + 8 ≤ length (now b)) × (59699 ≤ length (now b)) × (getD (now b) 0 0 ≤ 8) ⌝ }
+    ensures { λ r. ⌜ r ≡ all (heardOk (now (b .entry)) at (getD (now (b .entry)) 0 0) set i) (recorders 8) ⌝ }
+{
+    let mut j = 0;
+    while j < 8 {
+        if !heard_one(b, at, set, i, j + 1) {
+            return false;
+        }
+        j += 1;
+    }
+    true
+}
+
+// If source q is safe, is it a member?
+fn source_one(b: &[u8], at: usize, set: u8, q: usize) -> bool
+    requires { ⌜ (1 ≤ q) × (q ≤ 8) × (at + 8 ≤ length (now b)) × (getD (now b) 0 0 ≤ 8) ⌝ }
+    ensures { λ r. ⌜ r ≡ sourceOk (now (b .entry)) at (getD (now (b .entry)) 0 0) set q ⌝ }
+{
+    if 1 == b[at + (q - 1)] {
+        is_member(b[0], set, q)
+    } else {
+        true
+    }
+}
+
+// "Sources heard or safe are those of members of the view."
+fn source_all(b: &[u8], at: usize, set: u8) -> bool
+    requires { ⌜ (at + 8 ≤ length (now b)) × (getD (now b) 0 0 ≤ 8) ⌝ }
+    ensures { λ r. ⌜ r ≡ all (sourceOk (now (b .entry)) at (getD (now (b .entry)) 0 0) set) (recorders 8) ⌝ }
+{
+    let mut j = 0;
+    while j < 8 {
+        if !source_one(b, at, set, j + 1) {
+            return false;
+        }
+        j += 1;
+    }
+    true
+}
+
+// The place of view g among the m formed views, m if it is not formed.
+fn find_view(b: &[u8], m: usize, g: u32) -> usize
+    requires { ⌜ (m ≤ 32) × (162 ≤ length (now b)) ⌝ }
+    ensures { λ r. ⌜ Found m (now (b .entry)) g r ⌝ }
+{
+    let mut i = 0;
+    while i < m {
+        if codec::get_u32(b, 2 + i * 5) == g {
+            return i;
+        }
+        i += 1;
+    }
+    i
+}
+
+// The set of the view at a place, none past the last.
+fn view_set(b: &[u8], i: usize) -> u8
+    requires { ⌜ (i ≤ 32) × (getD (now b) 1 0 ≤ 32) × (162 ≤ length (now b)) ⌝ }
+    ensures { λ r. ⌜ r ≡ setAt (now (b .entry)) i ⌝ }
+{
+    let m = b[1] as usize;
+    if i < m { b[2 + i * 5 + 4] } else { 0 }
+}
+
+// The sequence number of each entry's label, 0 for none.
+fn labels_of(b: &[u8]) -> [u8; 64]
+    requires { ⌜ Ranged (now b) ⌝ }
+    ensures { λ r. ⌜ Labels (raw (now (b .entry)) .entries) r ⌝ }
+{
+    let m = b[162] as usize;
+    let mut labels = [0u8; 64];
+    let mut i = 0;
+    while i < m {
+        labels[i] = b[163 + i * 10 + 9];
+        i += 1;
+    }
+    labels
+}
+
+// Is entry d the same as e, without a label, or with another label?
+fn label_apart(b: &[u8], d: usize, e: usize) -> bool
+    requires { ⌜ Ranged (now b) × ((1 ≤ d) × (d ≤ entryCount (now b)) × (1 ≤ e) × (e ≤ entryCount (now b))) ⌝ }
+    ensures { λ r. ⌜ r ≡ apart (raw (now (b .entry)) .entries) d e ⌝ }
+{
+    let x = 163 + (d - 1) * 10;
+    let y = 163 + (e - 1) * 10;
+    if d == e {
+        return true;
+    }
+    if b[x + 9] == 0 {
+        return true;
+    }
+    let seq_sender = both(b[x + 9] == b[y + 9], b[x] == b[y]);
+    !both(
+        codec::get_u32(b, x + 5) == codec::get_u32(b, y + 5),
+        seq_sender,
+    )
+}
+
+// Does entry d share its label with no other of the m entries?
+fn label_alone(b: &[u8], m: usize, d: usize) -> bool
+    requires { ⌜ Ranged (now b) × ((m ≡ entryCount (now b)) × (1 ≤ d) × (d ≤ m)) ⌝ }
+    ensures { λ r. ⌜ r ≡ all (apart (raw (now (b .entry)) .entries) d) (recorders m) ⌝ }
+{
+    let mut j = 0;
+    while j < m {
+        if !label_apart(b, d, j + 1) {
+            return false;
+        }
+        j += 1;
+    }
+    true
+}
+
+// "No two entries share one."
+fn labels_alone(b: &[u8], m: usize) -> bool
+    requires { ⌜ Ranged (now b) × (m ≡ entryCount (now b)) ⌝ }
+    ensures { λ r. ⌜ r ≡ all (λ d. all (apart (raw (now (b .entry)) .entries) d) (recorders m)) (recorders m) ⌝ }
+{
+    let mut j = 0;
+    while j < m {
+        if !label_alone(b, m, j + 1) {
+            return false;
+        }
+        j += 1;
+    }
+    true
+}
+
+// Is the queued message at an offset a member's, and does it name a labelled entry or a sent summary?
+fn names_queued(b: &[u8], i: usize, at: usize, labels: &[u8; 64]) -> bool
+    requires { ⌜ Ranged (now b) × ((i < viewCount (now b)) × (at + 2 ≤ length (now b))) ⌝ }
+    ensures { λ r. ⌜ r ≡ queuedOk (now (labels .entry)) (now (b .entry)) i at ⌝ }
+{
+    let source = b[at] as usize;
+    if is_member(b[0], view_set(b, i), source) {
+        names_message(labels, is_sent(b, source, i), b[at + 1])
+    } else {
+        false
+    }
+}
+
+// Are the queued messages of the view at place i those of members, and do they name labelled entries and sent summaries?
+fn names_queue(b: &[u8], i: usize, labels: &[u8; 64]) -> bool
+    requires { ⌜ Ranged (now b) × ((i < viewCount (now b)) × Labels (raw (now b) .entries) (now labels)) ⌝ }
+    ensures { λ r. ⌜ r ≡ queueNames (raw (now (b .entry))) (viewAt (now (b .entry)) i) (raw (now (b .entry)) .service .queue (viewAt (now (b .entry)) i)) ⌝ }
+{
+    let at = 55059 + i * 145;
+    let count = b[at] as usize;
+    let mut j = 0;
+    while j < count {
+        if !names_queued(b, i, at + 1 + j * 2, labels) {
+            return false;
+        }
+        j += 1;
+    }
+    true
+}
+
+// Does the summary of the place at an offset, if it was sent, name labelled entries?
+fn names_summary(b: &[u8], at: usize, labels: &[u8; 64]) -> bool
+    requires { ⌜ at + 512 ≤ length (now b) ⌝ }
+    ensures { λ r. ⌜ r ≡ summaryOk (now (labels .entry)) (now (b .entry)) at ⌝ }
+{
+    if 1 == b[at + 68] {
+        let known = at + 69;
+        both(
+            names_set(b, known, labels),
+            names_all(b, known + 64, labels, false),
+        )
+    } else {
+        true
+    }
+}
+
+// "Pending and queued messages, summaries .. are those of members of the view": recorder p in the view at place i.
+fn place_cross(b: &[u8], i: usize, labels: &[u8; 64], p: usize) -> bool
+    requires { ⌜ Ranged (now b) × ((i < viewCount (now b)) × Labels (raw (now b) .entries) (now labels) × (1 ≤ p) × (p ≤ sizeAt (now b))) ⌝ }
+    ensures { λ r. ⌜ r ≡ placeCross (raw (now (b .entry))) (viewAt (now (b .entry)) i) p ⌝ }
+{
+    let at = 3091 + (p - 1) * 6496 + i * 203;
+    let sent = is_sent(b, p, i);
+    if is_member(b[0], view_set(b, i), p) {
+        both(names_all(b, at, labels, sent), names_summary(b, at, labels))
+    } else {
+        both(b[at] == 0, !sent)
+    }
+}
+
+// The same for recorders 1 to n.
+fn places_cross(b: &[u8], i: usize, labels: &[u8; 64], n: usize) -> bool
+    requires { ⌜ Ranged (now b) × ((i < viewCount (now b)) × Labels (raw (now b) .entries) (now labels) × (n ≡ sizeAt (now b))) ⌝ }
+    ensures { λ r. ⌜ r ≡ all (placeCross (raw (now (b .entry))) (viewAt (now (b .entry)) i)) (recorders n) ⌝ }
+{
+    let mut j = 0;
+    while j < n {
+        if !place_cross(b, i, labels, j + 1) {
+            return false;
+        }
+        j += 1;
+    }
+    true
+}
+
+// The rules of the view at place i.
+fn view_cross(b: &[u8], labels: &[u8; 64], i: usize) -> bool
+    requires { ⌜ Ranged (now b) × ((i < viewCount (now b)) × Labels (raw (now b) .entries) (now labels)) ⌝ }
+    ensures { λ r. ⌜ r ≡ viewCross (raw (now (b .entry))) (viewAt (now (b .entry)) i) ⌝ }
+{
+    let n = b[0] as usize;
+    both(names_queue(b, i, labels), places_cross(b, i, labels, n))
+}
+
+// The rules of the m views.
+fn views_cross(b: &[u8], labels: &[u8; 64], m: usize) -> bool
+    requires { ⌜ Ranged (now b) × ((m ≡ viewCount (now b)) × Labels (raw (now b) .entries) (now labels)) ⌝ }
+    ensures { λ r. ⌜ r ≡ all (viewCross (raw (now (b .entry)))) (viewNumbers m 2 (now (b .entry))) ⌝ }
+{
+    let mut i = 0;
+    while i < m {
+        if !view_cross(b, labels, i) {
+            return false;
+        }
+        i += 1;
+    }
+    true
+}
+
+// "Current view (0, or a formed view that has it)."
+fn in_view(n: u8, set: u8, g: u32, r: usize) -> bool
+    requires { ⌜ n ≤ 8 ⌝ }
+    ensures { λ t. ⌜ t ≡ (eqb g 0 || has (members n set) r) ⌝ }
+{
+    if g == 0 { true } else { is_member(n, set, r) }
+}
+
+// "Every list or set names only labelled entries", and heard and safe sources: recorder r.
+fn recorder_cross(b: &[u8], labels: &[u8; 64], r: usize) -> bool
+    requires { ⌜ Ranged (now b) × (Labels (raw (now b) .entries) (now labels) × (1 ≤ r) × (r ≤ sizeAt (now b))) ⌝ }
+    ensures { λ t. ⌜ t ≡ recorderCross (raw (now (b .entry))) r ⌝ }
+{
+    let at = 803 + (r - 1) * 286;
+    let g = codec::get_u32(b, at);
+    let i = find_view(b, b[1] as usize, g);
+    let set = view_set(b, i);
+    let current = in_view(b[0], set, g, r);
+    let known = names_set(b, at + 142, labels);
+    let sources = both(heard_all(b, at + 270, set, i), source_all(b, at + 278, set));
+    let sets = both(names_set(b, at + 206, labels), sources);
+    let order = both(names_all(b, at + 71, labels, false), sets);
+    let lists = both(names_all(b, at + 6, labels, false), order);
+    both(current, both(known, lists))
+}
+
+// The same for recorders 1 to n.
+fn recorders_cross(b: &[u8], labels: &[u8; 64], n: usize) -> bool
+    requires { ⌜ Ranged (now b) × (Labels (raw (now b) .entries) (now labels) × (n ≡ sizeAt (now b))) ⌝ }
+    ensures { λ t. ⌜ t ≡ all (recorderCross (raw (now (b .entry)))) (recorders n) ⌝ }
+{
+    let mut j = 0;
+    while j < n {
+        if !recorder_cross(b, labels, j + 1) {
+            return false;
+        }
+        j += 1;
+    }
+    true
+}
+
+// All cross rules, of bytes with each field in its range.
+fn cross_rules(b: &[u8]) -> bool
+    requires { ⌜ Ranged (now b) ⌝ }
+    ensures { λ r. ⌜ r ≡ crossRules (raw (now (b .entry))) ⌝ }
+{
+    let labels = labels_of(b);
+    let n = b[0] as usize;
+    let m = b[1] as usize;
+    let count = b[162] as usize;
+    both(
+        labels_alone(b, count),
+        both(recorders_cross(b, &labels, n), views_cross(b, &labels, m)),
+    )
+}
+
+// Are the first bytes of a slice a hall's stored form? (31.) Only these are read, and a shorter slice is none.
+pub fn is_hall(b: &[u8]) -> bool
+    ensures { λ r. ⌜ r ≡ isStored (now (b .entry)) ⌝ }
+{
+    if b.len() < 59699 {
+        return false;
+    }
+    if ranges::in_range(b) {
+        cross_rules(b)
+    } else {
+        false
+    }
+}
