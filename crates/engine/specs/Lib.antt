@@ -1,0 +1,10 @@
+pub mod Calls
+pub mod RunLaw
+pub mod Agreement
+pub mod Changes
+pub mod Changing
+pub mod Writes
+pub mod ByKind
+pub mod Words
+pub mod AtRecorder
+pub mod Opened
