@@ -1,0 +1,19 @@
+-- `opening::all` meets its contract. Assumes nothing.
+use native.Mathlib.Omega.{arith}
+use lib.Pow.{pow-pos}
+use borrow.Author.Needs.{needs}
+use Rattle.opening.specs.Openings.{one-shifted}
+use Rattle.opening.proofs.all.Statement.{statement}
+use Rattle.opening.proofs.all.Tie as tie
+
+shl-result : tie.Need-shl-result
+shl-result c = search needs
+
+sub-result : tie.Need-sub-result
+sub-result c = omega (arith, one-shifted (c .args .n) (c .pre), pow-pos (c .args .n))
+
+returns : tie.Need-returns
+returns c = omega (arith, one-shifted (c .args .n) (c .pre))
+
+pub all-spec : {M : Type 1} → statement M
+all-spec = tie.close (tie.spec shl-result sub-result returns)

@@ -1,0 +1,76 @@
+-- `opening::start` meets its contract: the tested bit says which start record is written. Assumes nothing.
+use Prim.Native.Nat.{_+_, _*_}
+use mathlib.Core.Path.{ap, _∙_}
+use lib.Seq.{sets}
+use Rattle.quorum.specs.Sets.{members}
+use Rattle.store.specs.Layout.{recordersAt, recorderSize}
+use Rattle.store.specs.Cells.{RecorderCell}
+use Rattle.store.specs.CellForms.{recorderForm}
+use Rattle.opening.specs.Openings.{is-founder, is-outsider}
+use borrow.Author.Needs.{needs}
+use Rattle.opening.proofs.start.Statement.{statement}
+use Rattle.opening.proofs.start.Tie as tie
+use Rattle.opening.proofs.start.Reads as reads
+use Rattle.opening.proofs.start.Lts as lts
+use Rattle.pieces.proofs.Recorder.founder.Reads as founder-reads
+use Rattle.pieces.proofs.Recorder.outsider.Reads as outsider-reads
+use Rattle.pieces.proofs.put_recorder.Reads as put-recorder-reads
+
+mul-at : tie.Need-mul-at
+mul-at c = search needs
+
+add-at : tie.Need-add-at
+add-at c = search needs
+
+shr-if1 : tie.Need-shr-if1
+shr-if1 c = search needs
+
+founder-requires : tie.Need-founder-requires
+founder-requires c κs = search needs
+
+put-recorder-requires : tie.Need-put-recorder-requires
+put-recorder-requires c κs = search needs
+
+outsider-requires : tie.Need-outsider-requires
+outsider-requires c κs = search needs
+
+put-recorder-requires-2 : tie.Need-put-recorder-requires-2
+put-recorder-requires-2 c κs = search needs
+
+same-length : tie.Need-same-length
+same-length c = search needs
+
+returns : tie.Need-returns
+returns c =
+    let k = c .before .before .before .before .before .before .before .args .k in
+    let set = c .before .before .before .before .before .before .before .args .set in
+    λ n h. c .before .before .put-recorder .ensures
+    ∙ ap (λ (x : RecorderCell). sets (c .before .before .before .before .before .before .before .args .b .now) (recordersAt + k * recorderSize) (recorderForm .encode x))
+    (c .before .before .before .founder .ensures .1 n (members n set) (k + 1) (is-founder n set k h (c .before .before .before .before .before .if1 .taken)))
+
+same-length-2 : tie.Need-same-length-2
+same-length-2 c = search needs
+
+returns-2 : tie.Need-returns-2
+returns-2 c =
+    let k = c .before .before .before .before .before .before .before .args .k in
+    let set = c .before .before .before .before .before .before .before .args .set in
+    λ n h. c .before .before .put-recorder2 .ensures
+    ∙ ap (λ (x : RecorderCell). sets (c .before .before .before .before .before .before .before .args .b .now) (recordersAt + k * recorderSize) (recorderForm .encode x))
+    (c .before .before .before .outsider .ensures .1 n (members n set) (k + 1) (is-outsider n set k h (c .before .before .before .before .before .if1 .left)))
+
+pub start-spec : {M : Type 1} → statement M
+start-spec =
+    tie.close
+    (tie.spec
+    mul-at
+    add-at
+    shr-if1
+    founder-requires
+    put-recorder-requires
+    outsider-requires
+    put-recorder-requires-2
+    same-length
+    returns
+    same-length-2
+    returns-2)

@@ -1,0 +1,125 @@
+// Opening a hall on lent bytes (document 01, "Votes and views" and "A hall's fields", refusals 16 and 18).
+
+ghost use mathlib.Core.Path.{_≡_};
+ghost use mathlib.Core.List.{List, _++_};
+ghost use Prim.Native.Nat.{ℕ, _+_, _-_, _*_, _^_, _≤_, _<_};
+ghost use lib.Dec.{ltb};
+ghost use lib.ListN.{length, drop};
+ghost use lib.Seq.{sets};
+ghost use Rattle.model.specs.Base.{refuse, _⨾_};
+ghost use Rattle.model.specs.Opening.{openRefusal};
+ghost use Rattle.store.specs.Layout.{storedLength, recordersAt, recorderSize};
+ghost use Rattle.store.specs.CellForms.{recorderForm};
+ghost use Rattle.store.specs.StoredForm.{stored};
+ghost use Rattle.engine.specs.Calls.{openOn};
+ghost use Rattle.engine.specs.Opened.{Taken, founderMask, begun, startOf};
+ghost use Rattle.opening.specs.Openings.{openingOf};
+use codec::clear;
+use codec::put_byte;
+use codec::put_u32;
+use pieces::Recorder;
+use pieces::put_recorder;
+
+// How long the stored form is, and where the recorders stand in it.
+const LENGTH: usize = 59699;
+
+const RECORDERS: usize = 803;
+
+const RECORDER: usize = 286;
+
+// The set of recorders 1 to n.
+fn all(n: u32) -> u32
+    requires { ⌜ n ≤ 8 ⌝ }
+    ensures { λ r. ⌜ r ≡ 2 ^ n - 1 ⌝ }
+{
+    (1 << n) - 1
+}
+
+// 16: "opening with N not 1 to 8, or founders above N".
+fn wrong_opening(n: u32, founders: u32) -> u32
+    ensures { λ r. ⌜ r ≡ openRefusal (openingOf n founders) ⌝ }
+{
+    if n < 1 {
+        return 16;
+    }
+    if 8 < n {
+        return 16;
+    }
+    if all(n) < founders { 16 } else { 0 }
+}
+
+// 18: "the slice to open or write into is too short".
+fn too_short(len: usize) -> u32
+    ensures { λ r. ⌜ r ≡ refuse (ltb len storedLength) 18 ⌝ }
+{
+    if len < LENGTH { 18 } else { 0 }
+}
+
+// The first of two refusals, 0 for none.
+fn first(one: u32, two: u32) -> u32
+    ensures { λ r. ⌜ r ≡ one ⨾ two ⌝ }
+{
+    if one == 0 { two } else { one }
+}
+
+// "A founders word of 0 means all recorders."
+fn founder_mask(n: u32, founders: u32) -> u32
+    requires { ⌜ n ≤ 8 ⌝ }
+    ensures { λ r. ⌜ r ≡ founderMask (openingOf n founders) ⌝ }
+{
+    if founders == 0 { all(n) } else { founders }
+}
+
+// N, and view 1 formed: "The hall opens with view 1, the founders."
+fn begin(b: &mut [u8], n: u32, set: u32)
+    requires { ⌜ Taken n set (now b) ⌝ }
+    ensures { λ _. ⌜ now (b .exit) ≡ stored (begun n set 0) ++ drop storedLength (now (b .entry)) ⌝ }
+{
+    clear(b, 0, LENGTH);
+    put_byte(b, 0, n as u8);
+    put_u32(b, 2, 1);
+    put_byte(b, 6, set as u8);
+    put_byte(b, 1, 1);
+}
+
+// Recorder k + 1 starts: "founders have current view and highest primary 1, others 0 for both".
+fn start(b: &mut [u8], set: u32, k: u32)
+    requires { ⌜ (k < 8) × (storedLength ≤ length (now b)) ⌝ }
+    ensures { λ _. ⌜ ((n : ℕ) → k < n → now (b .exit) ≡ sets (now (b .entry)) (recordersAt + k * recorderSize) (recorderForm .encode (startOf n set (k + 1)))) ⌝ }
+{
+    let at = RECORDERS + k as usize * RECORDER;
+    if (set >> k) % 2 == 1 {
+        put_recorder(b, at, Recorder::founder());
+    } else {
+        put_recorder(b, at, Recorder::outsider());
+    }
+}
+
+// Recorders 1 to n start, one after another.
+fn start_all(b: &mut [u8], n: u32, set: u32)
+    requires { ⌜ Taken n set (now b) ⌝ }
+    ensures { λ _. ⌜ ((rest : List ℕ) → now (b .entry) ≡ stored (begun n set 0) ++ rest → now (b .exit) ≡ stored (begun n set n) ++ rest) ⌝ }
+{
+    let mut k: u32 = 0;
+    while k < n {
+        start(b, set, k);
+        k += 1;
+    }
+}
+
+// Opens a hall of n recorders with the founders of a word. Answers 0, or the number of the refusal.
+pub fn open(b: &mut [u8], n: u32, founders: u32) -> u32
+    ensures number { λ r. ⌜ r ≡ openOn (now (b .entry)) (openingOf n founders) .number ⌝ }
+    ensures bytes { λ r. ⌜ now (b .exit) ≡ openOn (now (b .entry)) (openingOf n founders) .bytes ⌝ }
+{
+    let wrong = wrong_opening(n, founders);
+    let short = too_short(b.len());
+    let why = first(wrong, short);
+    if why != 0 {
+        return why;
+    }
+    let set = founder_mask(n, founders);
+    begin(b, n, set);
+    start_all(b, n, set);
+    0
+}
