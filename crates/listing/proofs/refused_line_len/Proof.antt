@@ -1,0 +1,21 @@
+-- The word, then the number. Assumes nothing.
+use native.Mathlib.Omega.{arith}
+use mathlib.Core.List.{[], _∷_}
+use Rattle.model.specs.Listing.{decimal, refused-word, refusedLine}
+use Rattle.text.specs.Fields.{length-line}
+use borrow.Author.Needs.{needs}
+use Rattle.listing.proofs.refused_line_len.Statement.{statement}
+use Rattle.listing.proofs.refused_line_len.Tie as tie
+
+last-len-requires : tie.Need-last-len-requires
+last-len-requires c κs = search needs
+
+add-result : tie.Need-add-result
+add-result c = search needs
+
+returns : tie.Need-returns
+unfolding refused-word refusedLine
+returns c = let a = c .before .args in omega (arith, length-line refused-word (decimal (a .k) ∷ []))
+
+pub refused-line-len-spec : {M : Type 1} → statement M
+refused-line-len-spec = tie.close (tie.spec last-len-requires add-result returns)

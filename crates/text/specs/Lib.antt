@@ -1,0 +1,4 @@
+pub mod Decimal
+pub mod Denoted
+pub mod Text
+pub mod Fields
