@@ -1,0 +1,37 @@
+//! A second, independent implementation of the HL3 hall log.
+//!
+//! It is written from the scope document, its readings and the figures of
+//! source document 003, without sight of the engine, and serves as the outside
+//! reference in tests: plain vectors and bit sets, one function per action.
+//! The rules hold on every hall whose fields are in range (`Hall::check`), not
+//! only on halls reached from an opening.
+//!
+//! - `hall`: the fields of a hall, opening, votes and look-ups.
+//! - `actions`: the eleven actions and their answers.
+//! - `exchange`: what a recorder builds from the summaries of a view.
+//! - `page`: the page of a recorder.
+//! - `check`: whether all fields are in range.
+//! - `runfile` and `listing`: run files and the listing of a replay.
+//! - `refusal`: the numbers of the refusals.
+//!
+//! A reader of the stored byte form is not part of this package yet. It would
+//! be one more module that fills the public fields of `Hall` and then asks
+//! `Hall::check`. Refusal 31 lies between 11 and 12, so a step on bytes calls
+//! `actions::judge_kind`, then that reader, then `Hall::step`.
+
+#![forbid(unsafe_code)]
+
+pub mod actions;
+pub mod check;
+pub mod exchange;
+pub mod hall;
+pub mod listing;
+pub mod page;
+pub mod refusal;
+pub mod runfile;
+
+pub use actions::Answer;
+pub use hall::{open, Entry, Hall, Label, Message, Phase, Queued, Recorder, Seat, Summary, View};
+pub use listing::listing;
+pub use page::Page;
+pub use runfile::{read_run_file, write_run_file};

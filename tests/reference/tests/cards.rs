@@ -1,0 +1,261 @@
+//! The bench cards, and a few more short runs from an opening.
+
+use reference::{listing, open, read_run_file, write_run_file, Answer, Hall};
+
+const DONE: Answer = Answer::Done;
+
+fn refused(number: u32) -> Answer {
+    Answer::Refused(number)
+}
+
+/// A run file of its own length.
+fn run_file(n: u32, founders: u32, actions: &[[u32; 4]]) -> Vec<u8> {
+    let mut file = vec![0; 32 + 16 * actions.len()];
+    let length = write_run_file(n, founders, actions, &mut file);
+    assert_eq!(length, Ok(file.len()));
+    file
+}
+
+/// Performs kinds at recorder 1, with A for submits and placings.
+fn steps_at_1(hall: &mut Hall, steps: &[(u32, u32)]) -> Vec<Answer> {
+    steps.iter().map(|&(k, a)| hall.step(k, 1, a, 0)).collect()
+}
+
+fn all_accepted(answers: &[Answer]) -> bool {
+    !answers
+        .iter()
+        .any(|answer| matches!(answer, Answer::Refused(_)))
+}
+
+#[test]
+fn the_listing() {
+    let kinds = [1, 2, 3, 7, 8, 9, 10, 11, 11];
+    let argument = |k| match k {
+        1 => 700,
+        7 => 1,
+        _ => 0,
+    };
+    let actions = kinds.map(|k| [k, 1, argument(k), 0]);
+    let wanted = "hall 1\n1 1 ok\n2 2 ok\n3 3 ok\n4 7 ok\n5 8 entry 1.1.1 700\n\
+        6 9 entry 1.1.1 700\n7 10 ok\n8 11 from 1 700\n9 11 refused 38\nend 8 1\n";
+    assert_eq!(listing(&run_file(1, 1, &actions)), wanted.as_bytes());
+    assert_eq!(listing(&run_file(2, 0, &[])), b"hall 2\nend 0 0\n");
+}
+
+#[test]
+fn openings() {
+    assert_eq!(open(0, 0), Err(16));
+    assert_eq!(open(9, 0), Err(16));
+    assert_eq!(open(3, 8), Err(16));
+    assert_eq!(open(8, 1 << 31), Err(16));
+    assert!(open(8, 0).is_ok_and(|hall| hall.check()));
+    let hall = open(3, 0).unwrap();
+    assert_eq!((hall.views[0].number, hall.views[0].members), (1, 7));
+    let hall = open(3, 2).unwrap();
+    assert_eq!((hall.recorder(1).current, hall.recorder(1).high), (0, 0));
+    assert_eq!((hall.recorder(2).current, hall.recorder(2).high), (1, 1));
+}
+
+#[test]
+fn quorums() {
+    use reference::hall::is_quorum;
+    assert!(!is_quorum(3, 0b110));
+    assert!(is_quorum(3, 0b011));
+    assert!(is_quorum(4, 0b1110));
+    assert!(!is_quorum(4, 0b1100));
+    assert!(is_quorum(2, 0b01));
+}
+
+#[test]
+fn view_numbers() {
+    let mut hall = open(2, 0).unwrap();
+    assert_eq!(hall.step(5, 0, 0, 1), refused(14));
+    assert_eq!(hall.step(5, 0, 256, 1), refused(14));
+    assert_eq!(hall.step(5, 0, 2, 3), DONE);
+    assert_eq!(hall.step(5, 0, 3, 3), DONE);
+    assert_eq!(hall.step(6, 1, 3, 0), DONE);
+    assert_eq!(hall.step(6, 1, 2, 0), refused(36));
+    assert_eq!(hall.step(5, 0, 255, 1), DONE);
+    assert_eq!(hall.step(5, 0, 255, 1), refused(33));
+    assert_eq!(hall.step(5, 0, 255, 4), refused(15));
+    assert_eq!(hall.step(5, 0, 255, 0), refused(15));
+    assert_eq!(hall.step(6, 2, 255, 0), refused(35));
+    assert_eq!(hall.step(7, 2, 254, 0), refused(34));
+}
+
+#[test]
+fn labels_wait_for_the_summaries() {
+    let mut hall = open(1, 0).unwrap();
+    assert_eq!(hall.step(5, 0, 2, 1), DONE);
+    assert!(all_accepted(&steps_at_1(&mut hall, &[(6, 2), (1, 5)])));
+    assert_eq!(hall.step(2, 1, 0, 0), refused(37));
+    assert_eq!(hall.step(3, 1, 0, 0), refused(37));
+    assert!(all_accepted(&steps_at_1(&mut hall, &[(4, 0), (7, 2)])));
+    assert_eq!(hall.step(2, 1, 0, 0), refused(37));
+    assert!(all_accepted(&steps_at_1(&mut hall, &[(8, 0), (2, 0)])));
+    assert_eq!(hall.step(4, 1, 0, 0), refused(37));
+}
+
+#[test]
+fn order_of_refusals() {
+    let mut hall = open(2, 0).unwrap();
+    assert_eq!(hall.step(12, 9, 9, 9), refused(11));
+    assert_eq!(hall.step(0, 1, 0, 0), refused(11));
+    assert_eq!(hall.step(6, 9, 0, 0), refused(12));
+    assert_eq!(hall.step(5, 1, 0, 0), refused(12));
+    assert_eq!(hall.step(6, 1, 0, 1), refused(13));
+    assert_eq!(hall.step(1, 1, 7, 1), refused(13));
+    assert_eq!(hall.step(10, 1, 1, 0), refused(13));
+    assert_eq!(hall.step(5, 0, 256, 0), refused(14));
+    assert_eq!(hall.step(10, 1, 0, 0), refused(38));
+    assert_eq!(hall.step(11, 1, 0, 0), refused(38));
+}
+
+#[test]
+fn safe_needs_all_members() {
+    let mut hall = open(2, 0).unwrap();
+    assert!(all_accepted(&steps_at_1(
+        &mut hall,
+        &[(1, 5), (2, 0), (3, 0), (7, 1), (8, 0)]
+    )));
+    assert_eq!(hall.step(9, 1, 0, 0), refused(39));
+    let entry = hall.step(8, 2, 0, 0);
+    assert_eq!(hall.step(9, 1, 0, 0), entry);
+    assert_eq!(hall.step(9, 1, 0, 0), refused(38));
+}
+
+#[test]
+fn limits_of_entries_and_views() {
+    let mut hall = open(1, 0).unwrap();
+    for value in 0..64 {
+        assert_eq!(hall.step(1, 1, value, 0), DONE);
+    }
+    assert_eq!(hall.step(1, 1, 64, 0), refused(32));
+    for number in 2..33 {
+        assert_eq!(hall.step(5, 0, number, 1), DONE);
+    }
+    assert_eq!(hall.step(5, 0, 33, 1), refused(32));
+    assert_eq!(hall.step(5, 0, 1, 1), refused(32));
+    assert!(hall.check());
+}
+
+/// A label that was safe in one view is not safe in the next until the
+/// summaries there are.
+#[test]
+fn safe_labels_end_with_the_view() {
+    let mut hall = open(1, 0).unwrap();
+    let entry = [(1, 5), (2, 0), (3, 0), (7, 1), (8, 0), (9, 0)];
+    assert!(all_accepted(&steps_at_1(&mut hall, &entry)));
+    assert_eq!(hall.step(5, 0, 2, 1), DONE);
+    assert_eq!(hall.step(6, 1, 2, 0), DONE);
+    assert_eq!(hall.step(10, 1, 0, 0), refused(39));
+    assert!(all_accepted(&steps_at_1(
+        &mut hall,
+        &[(4, 0), (7, 2), (8, 0)]
+    )));
+    assert_eq!(hall.step(10, 1, 0, 0), refused(39));
+    assert!(all_accepted(&steps_at_1(
+        &mut hall,
+        &[(9, 0), (10, 0), (11, 0)]
+    )));
+}
+
+/// A summary is shown as sent, also when its source has moved on.
+#[test]
+fn summaries_are_shown_as_sent() {
+    let mut hall = open(2, 0).unwrap();
+    assert_eq!(hall.step(5, 0, 2, 3), DONE);
+    assert!(all_accepted(&steps_at_1(
+        &mut hall,
+        &[(6, 2), (4, 0), (7, 2)]
+    )));
+    hall.recorder_mut(1).confirm = 9;
+    hall.recorder_mut(1).high = 9;
+    let summary = Answer::Summary {
+        source: 1,
+        known: 0,
+        order: 0,
+        confirm: 1,
+        high: 1,
+    };
+    assert_eq!(hall.step(6, 2, 2, 0), DONE);
+    assert_eq!(hall.step(8, 2, 0, 0), summary);
+}
+
+#[test]
+fn pages() {
+    let mut hall = open(3, 3).unwrap();
+    let steps = [(1, 5), (2, 0), (1, 6), (2, 0), (3, 0), (7, 1), (8, 0)];
+    assert!(all_accepted(&steps_at_1(&mut hall, &steps)));
+    let page = hall.page(1, 1).unwrap();
+    assert_eq!(
+        (page.view, page.members, page.primary, page.high),
+        (1, 3, 1, 1)
+    );
+    assert_eq!((page.order_length, page.buffer_length), (1, 1));
+    assert_eq!((page.phase, page.confirm, page.report), (0, 1, 1));
+    assert_eq!(
+        (page.label_view, page.label_seq, page.label_sender),
+        (1, 1, 1)
+    );
+    assert_eq!(page.value, 5);
+    assert_eq!(hall.page(1, 0).unwrap().value, 0);
+    assert_eq!(hall.page(1, 2), Err(38));
+    assert_eq!(hall.page(1, u32::MAX), Err(38));
+    assert_eq!(hall.page(4, 2), Err(12));
+    assert_eq!(hall.page(0, 0), Err(12));
+    let page = hall.page(3, 0).unwrap();
+    assert_eq!(
+        (page.view, page.members, page.primary, page.high),
+        (0, 0, 0, 0)
+    );
+}
+
+#[test]
+fn run_files() {
+    let actions = [[1, 2, 3, 4], [u32::MAX, 0, 7, 8]];
+    let file = run_file(3, 5, &actions);
+    assert_eq!(read_run_file(&file), Ok((3, 5, actions.to_vec())));
+    let preceded = [&[9, 9, 9][..], &file].concat();
+    assert_eq!(read_run_file(&preceded), Ok((3, 5, actions.to_vec())));
+    assert_eq!(read_run_file(&file[1..]), Err(19));
+    assert_eq!(read_run_file(&file[..31]), Err(19));
+    assert_eq!(read_run_file(&[]), Err(19));
+    let too_long = [vec![0; 65_537 - file.len()], file.clone()].concat();
+    assert_eq!(read_run_file(&too_long), Err(19));
+    assert!(read_run_file(&too_long[1..]).is_ok());
+}
+
+#[test]
+fn run_files_with_wrong_words() {
+    let file = run_file(1, 0, &[]);
+    let with = |place: usize, word: u32| {
+        let mut changed = file.clone();
+        changed[4 * place..4 * place + 4].copy_from_slice(&word.to_le_bytes());
+        read_run_file(&changed)
+    };
+    assert_eq!(with(0, 9), Err(16));
+    assert_eq!(with(1, 2), Err(16));
+    for place in [2, 3, 4, 5, 6, 7] {
+        assert_eq!(with(place, 1), Err(19));
+    }
+    // 32 + 16 C has the right low 32 bits here, but is not 32.
+    assert_eq!(with(5, 1 << 28), Err(19));
+}
+
+#[test]
+fn writing_run_files() {
+    let mut bytes = [7; 40];
+    assert_eq!(write_run_file(0, 0, &[[0; 4]; 4_095], &mut bytes), Err(16));
+    assert_eq!(write_run_file(1, 0, &[[0; 4]; 4_095], &mut bytes), Err(19));
+    assert_eq!(write_run_file(1, 0, &[[0; 4]], &mut bytes), Err(18));
+    assert_eq!(bytes, [7; 40]);
+    assert_eq!(write_run_file(1, 0, &[], &mut bytes), Ok(32));
+    assert_eq!(bytes[32..], [7; 8]);
+    assert_eq!(read_run_file(&bytes[..32]), Ok((1, 0, vec![])));
+    let mut longest = vec![0; 65_536];
+    assert_eq!(
+        write_run_file(1, 0, &[[0; 4]; 4_094], &mut longest),
+        Ok(65_536)
+    );
+}
