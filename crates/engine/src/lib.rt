@@ -1,2 +1,2 @@
 // The calls of a hall on lent bytes. What each call answers and leaves stands in specs/.
-mod words;
+pub mod words;
