@@ -1,0 +1,4 @@
+pub mod Acts
+pub mod Keys
+pub mod Parts
+pub mod Reads

@@ -1,0 +1,22 @@
+-- The byte takes the first place that is not in use. Assumes nothing.
+use borrow.Author.Needs.{needs}
+use mathlib.Core.Path.{_≡_, refl}
+use lib.ListN.{length}
+use Rattle.lists.specs.Ends.{pushed}
+use Rattle.lists.proofs.push.Statement.{statement}
+use Rattle.lists.proofs.push.Tie as tie
+
+array-write-places : tie.Need-array-write-places
+array-write-places c = search needs
+
+add-t8 : tie.Need-add-t8
+add-t8 c = search needs
+
+returns : tie.Need-returns
+returns c =
+    let l = c .before .args .l in
+    let full : length (l .places) ≡ 72 = search needs in
+    (refl, pushed l full (c .before .args .x) (c .before .pre))
+
+pub push-spec : {M : Type 1} → statement M
+push-spec = tie.close (tie.spec array-write-places add-t8 returns)
