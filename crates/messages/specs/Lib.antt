@@ -1,0 +1,4 @@
+pub mod Members
+pub mod Contents
+pub mod Current
+pub mod Acting

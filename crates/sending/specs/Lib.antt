@@ -1,0 +1,4 @@
+pub mod Values
+pub mod Both
+pub mod Entry
+pub mod Summary
