@@ -1,0 +1,47 @@
+-- `step::step` meets its contract. Assumes nothing.
+use denote.Ref.{now}
+use Rattle.step.specs.Steps as steps
+use borrow.Author.Needs.{needs}
+use Rattle.step.proofs.step.Statement.{statement}
+use Rattle.step.proofs.step.Tie as tie
+
+kind-refusal-requires : tie.Need-kind-refusal-requires
+kind-refusal-requires c κs = search needs
+
+bytes-refusal-requires : tie.Need-bytes-refusal-requires
+bytes-refusal-requires c κs = search needs
+
+first-requires : tie.Need-first-requires
+first-requires c κs = search needs
+
+same-length : tie.Need-same-length
+same-length c = search needs
+
+returns : tie.Need-returns
+returns c =
+    let a = c .before .before .before .before .before .before .args in
+    steps.early-refused (now (a .b)) (a .k) (a .r) (a .a) (a .d) _ _ _ (c .before .before .before .before .kind-refusal .ensures) (c .before .before .bytes-refusal .ensures) (c .before .first .ensures) (c .if1 .taken)
+
+step-hall-requires : tie.Need-step-hall-requires
+step-hall-requires c κs =
+    let a = c .before .before .before .before .before .before .before .args in
+    steps.early-passed (now (a .b)) (a .k) (a .r) (a .a) (a .d) _ _ _ (c .before .before .before .before .before .kind-refusal .ensures) (c .before .before .before .bytes-refusal .ensures) (c .before .before .first .ensures) (c .before .if1 .left)
+
+same-length-2 : tie.Need-same-length-2
+same-length-2 c = search needs
+
+returns-2 : tie.Need-returns-2
+returns-2 c = search needs
+
+pub step-spec : {M : Type 1} → statement M
+step-spec =
+    tie.close
+    (tie.spec
+    kind-refusal-requires
+    bytes-refusal-requires
+    first-requires
+    same-length
+    returns
+    step-hall-requires
+    same-length-2
+    returns-2)

@@ -1,0 +1,3 @@
+pub mod Programs
+pub mod InventedMark
+pub mod WrongOnBytes
