@@ -1,0 +1,43 @@
+// The C interface (include/hall.h): open, step and page on numbers and byte slices. Each function returns 0 or the number
+// of the refusal. A step's answer and a page are words in a lent slice.
+ghost use mathlib.Core.Path.{_≡_};
+ghost use Rattle.engine.specs.Calls.{openOn};
+ghost use Rattle.opening.specs.Openings.{openingOf};
+ghost use Rattle.step.specs.Steps.{wordsOf};
+ghost use Rattle.marshal.specs.Lent.{stepLent, pageLent};
+ghost use Rattle.marshal.specs.Refused.{Leaves};
+use marshal::page_into;
+use marshal::step_into;
+use opening::open;
+
+// Opens a hall of n recorders with the founders of a word.
+#[no_mangle]
+pub extern "C" fn hall_open(hall: &mut [u8], n: u32, founders: u32) -> u32
+    ensures number { λ r. ⌜ r ≡ openOn (now (hall .entry)) (openingOf n founders) .number ⌝ }
+    ensures bytes { λ r. ⌜ now (hall .exit) ≡ openOn (now (hall .entry)) (openingOf n founders) .bytes ⌝ }
+{
+    open(hall, n, founders)
+}
+
+// A step of kind k at recorder r with arguments a and b.
+#[no_mangle]
+pub extern "C" fn hall_step(
+    hall: &mut [u8],
+    k: u32,
+    r: u32,
+    a: u32,
+    b: u32,
+    answer: &mut [u8],
+) -> u32
+    ensures { λ n. ⌜ Leaves (stepLent (now (hall .entry)) (wordsOf k r a b) (now (answer .entry))) n (now (hall .exit)) (now (answer .exit)) ⌝ }
+{
+    step_into(hall, k, r, a, b, answer)
+}
+
+// The page of recorder r with a place of its order.
+#[no_mangle]
+pub extern "C" fn hall_page(hall: &[u8], r: u32, place: u32, page: &mut [u8]) -> u32
+    ensures { λ n. ⌜ Leaves (pageLent (now (hall .entry)) r place (now (page .entry))) n (now (hall .entry)) (now (page .exit)) ⌝ }
+{
+    page_into(hall, r, place, page)
+}

@@ -1,0 +1,29 @@
+-- `marshal::try_short` meets its contract. Assumes nothing.
+use Rattle.marshal.specs.Refused.{short-broken, answer-broken}
+use lib.Dec.{lit<}
+use Rattle.step.specs.Steps.{wordsOf}
+use Rattle.engine.specs.Calls.{stepOn}
+use Rattle.model.specs.Answers.{Answer, plain}
+use mathlib.Core.Path.{_≡_, refl, sym, ap, _∙_}
+use borrow.Author.Needs.{needs}
+use Rattle.marshal.proofs.try_short.Statement.{statement}
+use Rattle.marshal.proofs.try_short.Tie as tie
+
+slice-aggregate-step : tie.Need-slice-aggregate-step
+slice-aggregate-step c = search needs
+
+step-requires : tie.Need-step-requires
+step-requires c κs = search needs
+
+plain-requires : tie.Need-plain-requires
+plain-requires c κs = search needs
+
+returns : tie.Need-returns
+returns c =
+    let a = c .before .before .before .before .args in
+    λ b l. c .plain .ensures .number
+    ∙ ap (λ (x : Answer). plain x .number)
+    (c .before .before .step .ensures .answer ∙ answer-broken _ b (wordsOf (a .k) (a .r) (a .a) (a .d)) (short-broken _ (lit< tt)) (short-broken b l))
+
+pub try-short-spec : {M : Type 1} → statement M
+try-short-spec = tie.close (tie.spec slice-aggregate-step step-requires plain-requires returns)
