@@ -1,0 +1,9 @@
+pub mod Listings
+pub mod Steps
+pub mod Going
+pub mod Numbers
+pub mod Longest
+pub mod Files
+pub mod Whole
+pub mod Lines
+pub mod Runs

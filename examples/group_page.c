@@ -1,0 +1,378 @@
+/*
+ * The group page: a program to start from.
+ *
+ *     group_page N FOUNDERS RECORDER < ACTIONS
+ *
+ * Opens a hall of N recorders. FOUNDERS is the set of the first view, a mask
+ * with bit k - 1 for recorder k, or the word `whole` for the whole hall. Then
+ * takes actions from standard input and last shows the group page of RECORDER.
+ *
+ * A line of the input is one of
+ *     K R A B    an action: kind, recorder, two arguments, 0 where unused
+ *     page R     show the page of recorder R as it is now
+ *     # ...      a remark; empty lines are passed over too
+ *
+ * A refused action changes nothing; the refusal is explained in words.
+ *
+ * The exit status is 0, or 1 if a line is not understood, or the opening or a
+ * page is refused, or 2 if the command line is wrong or there is no memory.
+ *
+ * Build: cc -Iinclude examples/group_page.c target/staticlib/libcapi.a
+ */
+#include "hall.h"
+
+#include <inttypes.h>
+#include <stdio.h>
+#include <stdlib.h>
+#include <string.h>
+
+/* Longer lines are not understood. */
+#define LINE_LENGTH 200
+
+/* -- Words for a person -------------------------------------------------- */
+
+/* Why an action was refused, for the numbers whose reason depends on the kind. */
+static const char *reason_by_kind(uint32_t number, uint32_t kind)
+{
+    switch (number) {
+    case HALL_REFUSED_RECORDER:
+        return kind == HALL_FORM ? "forming a view names no recorder: the second number is 0"
+                                 : "the hall has no such recorder";
+    case HALL_REFUSED_TOO_MANY:
+        return kind == HALL_FORM ? "32 views are formed, and no more are taken"
+                                 : "64 entries are submitted, and no more are taken";
+    case HALL_REFUSED_PHASE:
+        switch (kind) {
+        case HALL_SEND_SUMMARY:
+            return "the recorder is in no group, or its summary is not due";
+        case HALL_LABEL:
+        case HALL_SEND_ENTRY:
+            return "the recorder is in no group, or its group has not yet exchanged summaries";
+        default:
+            return "the recorder is in no group";
+        }
+    case HALL_REFUSED_NOTHING:
+        switch (kind) {
+        case HALL_LABEL:
+            return "no entry waits at the recorder";
+        case HALL_SEND_ENTRY:
+            return "the recorder has no labelled entry to send";
+        case HALL_PLACE:
+            return "no message of the recorder is pending in this view";
+        case HALL_CONFIRM:
+            return "every entry of the recorder's log is confirmed";
+        case HALL_DELIVER:
+            return "every confirmed entry is reported";
+        default:
+            return "no further message is in the group's queue";
+        }
+    case HALL_REFUSED_NOT_YET:
+        switch (kind) {
+        case HALL_SAFE:
+            return "a member of the group has not received the message";
+        case HALL_CONFIRM:
+            return "the next entry is not yet safe at all members";
+        default:
+            return "the recorder does not know the entry";
+        }
+    case HALL_REFUSED_FULL:
+        switch (kind) {
+        case HALL_LABEL:
+            return "the recorder has no further label in this view, or its buffer is full";
+        case HALL_SEND_SUMMARY:
+            return "a summary was sent in this view, or too many messages are pending";
+        case HALL_SEND_ENTRY:
+            return "too many messages of the recorder are pending";
+        case HALL_PLACE:
+            return "the group's queue is full";
+        default:
+            return "the recorder's log is full";
+        }
+    default:
+        return "the reason is not known to this program";
+    }
+}
+
+/* Why an opening, an action or a page was refused; kind is 0 but for actions. */
+static const char *reason(uint32_t number, uint32_t kind)
+{
+    switch (number) {
+    case HALL_REFUSED_KIND:
+        return "there is no such action: kinds are 1 to 11";
+    case HALL_REFUSED_UNUSED:
+        return "a number that this action does not use is not 0";
+    case HALL_REFUSED_VIEW_NUMBER:
+        return "view numbers are 1 to 255";
+    case HALL_REFUSED_SET:
+        return "the new view has no member, or one that the hall does not have";
+    case HALL_REFUSED_OPENING:
+        return "a hall has 1 to 8 recorders, and its founders are among them";
+    case HALL_REFUSED_SHORT:
+        return "the memory lent is too short";
+    case HALL_REFUSED_BYTES:
+        return "the memory lent does not hold a hall";
+    case HALL_REFUSED_NOT_RISING:
+        return "a view with this number or a greater one is formed already";
+    case HALL_REFUSED_NOT_FORMED:
+        return "no view with this number is formed";
+    case HALL_REFUSED_NO_MEMBER:
+        return "the recorder is not a member of this view";
+    case HALL_REFUSED_NOT_ABOVE:
+        return "the recorder is in this view already, or in a later one";
+    default:
+        return reason_by_kind(number, kind);
+    }
+}
+
+static const char *phase_words(uint32_t phase)
+{
+    switch (phase) {
+    case HALL_PHASE_NORMAL:
+        return "normal";
+    case HALL_PHASE_SEND:
+        return "send: its summary is due";
+    default:
+        return "collect: waiting for summaries";
+    }
+}
+
+/* -- The page ------------------------------------------------------------ */
+
+/* The members of a set as "1, 2, 5". */
+static void print_set(uint32_t set)
+{
+    const char *before = "";
+    for (uint32_t k = 1; k <= HALL_RECORDERS; k++) {
+        if (set >> (k - 1) & 1) {
+            printf("%s%" PRIu32, before, k);
+            before = ", ";
+        }
+    }
+}
+
+static void print_group(const uint8_t *page)
+{
+    uint32_t view = hall_word(page, HALL_PAGE_VIEW);
+    printf("  group            ");
+    if (view == 0) {
+        puts("none");
+        return;
+    }
+    print_set(hall_word(page, HALL_PAGE_SET));
+    printf(" under number %" PRIu32 ", %s\n", view,
+           hall_word(page, HALL_PAGE_PRIMARY) ? "primary" : "not primary");
+}
+
+static void print_highest(const uint8_t *page)
+{
+    uint32_t highest = hall_word(page, HALL_PAGE_HIGHEST);
+    printf("  highest primary  ");
+    if (highest == 0) {
+        puts("none");
+    } else {
+        printf("%" PRIu32 "\n", highest);
+    }
+}
+
+/* How far a place of the log has come; marks count from 1. */
+static const char *place_state(uint32_t place, uint32_t confirm, uint32_t report)
+{
+    if (place < report) {
+        return "reported";
+    }
+    return place < confirm ? "confirmed" : "not confirmed";
+}
+
+/* One line for each place of the order. 0, or the number of a refusal. */
+static uint32_t print_log(const uint8_t *hall, uint32_t r, uint32_t length)
+{
+    if (length != 0) {
+        puts("\n  place      label       value  state");
+    }
+    for (uint32_t place = 1; place <= length; place++) {
+        uint8_t page[HALL_ANSWER_LENGTH];
+        char label[40];
+        uint32_t number = hall_page(hall, HALL_LENGTH, r, place, page, sizeof page);
+        if (number != 0) {
+            return number;
+        }
+        snprintf(label, sizeof label, "%" PRIu32 ".%" PRIu32 ".%" PRIu32,
+                 hall_word(page, HALL_PAGE_LABEL_VIEW), hall_word(page, HALL_PAGE_LABEL_SEQ),
+                 hall_word(page, HALL_PAGE_LABEL_SENDER));
+        printf("  %5" PRIu32 "  %9s  %10" PRIu32 "  %s\n", place, label, hall_word(page, HALL_PAGE_VALUE),
+               place_state(place, hall_word(page, HALL_PAGE_CONFIRM), hall_word(page, HALL_PAGE_REPORT)));
+    }
+    return 0;
+}
+
+/* The page of recorder r. 0, or the number of a refusal. */
+static uint32_t print_page(const uint8_t *hall, uint32_t r)
+{
+    uint8_t page[HALL_ANSWER_LENGTH];
+    uint32_t number = hall_page(hall, HALL_LENGTH, r, 0, page, sizeof page);
+    if (number != 0) {
+        return number;
+    }
+    uint32_t length = hall_word(page, HALL_PAGE_ORDER_LENGTH);
+    printf("\nRecorder %" PRIu32 "\n", r);
+    print_group(page);
+    printf("  phase            %s\n", phase_words(hall_word(page, HALL_PAGE_PHASE)));
+    print_highest(page);
+    printf("  to be sent       %" PRIu32 "\n", hall_word(page, HALL_PAGE_BUFFER_LENGTH));
+    printf("  common log       length %" PRIu32 ", confirmed %" PRIu32 ", reported %" PRIu32 "\n", length,
+           hall_word(page, HALL_PAGE_CONFIRM) - 1, hall_word(page, HALL_PAGE_REPORT) - 1);
+    return print_log(hall, r, length);
+}
+
+/* Shows a page or says why not. Whether it was shown. */
+static int show_page(const uint8_t *hall, uint32_t r)
+{
+    uint32_t number = print_page(hall, r);
+    if (number != 0) {
+        printf("page of recorder %" PRIu32 " refused (%" PRIu32 "): %s\n", r, number, reason(number, 0));
+    }
+    return number == 0;
+}
+
+/* -- Input --------------------------------------------------------------- */
+
+/* A decimal number of 32 bits at *text, after blanks. Moves *text past it. */
+static int take_number(const char **text, uint32_t *number)
+{
+    const char *at = *text + strspn(*text, " \t");
+    uint64_t sum = 0;
+    size_t digits = 0;
+    for (; at[digits] >= '0' && at[digits] <= '9'; digits++) {
+        sum = 10 * sum + (uint64_t)(at[digits] - '0');
+        if (sum > UINT32_MAX) {
+            return 0;
+        }
+    }
+    *text = at + digits;
+    *number = (uint32_t)sum;
+    /* The next number, if any, is parted by a blank. */
+    return digits != 0 && (**text == '\0' || **text == ' ' || **text == '\t');
+}
+
+/* Whether a text is just `count` numbers. */
+static int take_numbers(const char *text, uint32_t *numbers, size_t count)
+{
+    for (size_t i = 0; i < count; i++) {
+        if (!take_number(&text, &numbers[i])) {
+            return 0;
+        }
+    }
+    return text[strspn(text, " \t")] == '\0';
+}
+
+/* Reads a line without its end. Returns 1; 0 at the end of the input; -1 for a
+ * line that is too long, which is passed over. */
+static int read_line(char *line)
+{
+    size_t length = 0;
+    int too_long = 0;
+    int c = getchar();
+    if (c == EOF) {
+        return 0;
+    }
+    for (; c != EOF && c != '\n'; c = getchar()) {
+        if (length + 1 < LINE_LENGTH) {
+            line[length++] = (char)c;
+        } else {
+            too_long = 1;
+        }
+    }
+    if (length != 0 && line[length - 1] == '\r') {
+        length--;
+    }
+    line[length] = '\0';
+    return too_long ? -1 : 1;
+}
+
+/* Takes one action; says why if it is refused. */
+static void take_action(uint8_t *hall, const uint32_t *words, unsigned long at)
+{
+    uint8_t answer[HALL_ANSWER_LENGTH];
+    uint32_t number =
+        hall_step(hall, HALL_LENGTH, words[0], words[1], words[2], words[3], answer, sizeof answer);
+    if (number != 0) {
+        printf("line %lu: %" PRIu32 " %" PRIu32 " %" PRIu32 " %" PRIu32 " refused (%" PRIu32 "): %s\n", at,
+               words[0], words[1], words[2], words[3], number, reason(number, words[0]));
+    }
+}
+
+/* Does what a line asks for. Whether that went well; a refused action does. */
+static int take_line(uint8_t *hall, const char *line, unsigned long at)
+{
+    uint32_t words[4];
+    line += strspn(line, " \t");
+    if (*line == '\0' || *line == '#') {
+        return 1;
+    }
+    if (strncmp(line, "page ", 5) == 0 && take_numbers(line + 5, words, 1)) {
+        return show_page(hall, words[0]);
+    }
+    if (take_numbers(line, words, 4)) {
+        take_action(hall, words, at);
+        return 1;
+    }
+    printf("line %lu: not understood\n", at);
+    return 0;
+}
+
+/* Takes all lines. Whether all went well. */
+static int take_lines(uint8_t *hall)
+{
+    char line[LINE_LENGTH];
+    int well = 1;
+    int got;
+    for (unsigned long at = 1; (got = read_line(line)) != 0; at++) {
+        if (got < 0) {
+            printf("line %lu: too long\n", at);
+            well = 0;
+        } else if (!take_line(hall, line, at)) {
+            well = 0;
+        }
+    }
+    return well;
+}
+
+/* -- The program --------------------------------------------------------- */
+
+static int take_founders(const char *text, uint32_t *founders)
+{
+    if (strcmp(text, "whole") == 0) {
+        *founders = 0; /* the open call's word for all recorders */
+        return 1;
+    }
+    return take_numbers(text, founders, 1);
+}
+
+int main(int argc, char **argv)
+{
+    uint32_t n, founders, recorder;
+    if (argc != 4 || !take_numbers(argv[1], &n, 1) || !take_founders(argv[2], &founders) ||
+        !take_numbers(argv[3], &recorder, 1)) {
+        fputs("usage: group_page N FOUNDERS RECORDER < ACTIONS\n"
+              "FOUNDERS is a mask with bit k - 1 for recorder k, or the word whole\n",
+              stderr);
+        return 2;
+    }
+    uint8_t *hall = malloc(HALL_LENGTH);
+    if (!hall) {
+        fputs("no memory\n", stderr);
+        return 2;
+    }
+    uint32_t number = hall_open(hall, HALL_LENGTH, n, founders);
+    if (number != 0) {
+        printf("opening refused (%" PRIu32 "): %s\n", number, reason(number, 0));
+        free(hall);
+        return 1;
+    }
+    int well = take_lines(hall);
+    if (!show_page(hall, recorder)) {
+        well = 0;
+    }
+    free(hall);
+    return well ? 0 : 1;
+}
