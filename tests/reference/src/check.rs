@@ -65,7 +65,14 @@ impl Hall {
 
     /// Whether a set names only labelled entries.
     fn check_entry_set(&self, set: u64) -> bool {
-        (0..u64::BITS as usize).all(|entry| set >> entry & 1 == 0 || self.is_labelled(entry))
+        let mut rest = set;
+        while rest != 0 {
+            if !self.is_labelled(rest.trailing_zeros() as usize) {
+                return false;
+            }
+            rest &= rest - 1;
+        }
+        true
     }
 
     fn check_views(&self) -> bool {

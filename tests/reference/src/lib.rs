@@ -11,17 +11,15 @@
 //! - `exchange`: what a recorder builds from the summaries of a view.
 //! - `page`: the page of a recorder.
 //! - `check`: whether all fields are in range.
+//! - `stored`: the stored form, read and written.
+//! - `calls`: open, step and page on lent bytes.
 //! - `runfile` and `listing`: run files and the listing of a replay.
 //! - `refusal`: the numbers of the refusals.
-//!
-//! A reader of the stored byte form is not part of this package yet. It would
-//! be one more module that fills the public fields of `Hall` and then asks
-//! `Hall::check`. Refusal 31 lies between 11 and 12, so a step on bytes calls
-//! `actions::judge_kind`, then that reader, then `Hall::step`.
 
 #![forbid(unsafe_code)]
 
 pub mod actions;
+pub mod calls;
 pub mod check;
 pub mod exchange;
 pub mod hall;
@@ -29,6 +27,7 @@ pub mod listing;
 pub mod page;
 pub mod refusal;
 pub mod runfile;
+pub mod stored;
 
 pub use actions::Answer;
 pub use hall::{open, Entry, Hall, Label, Message, Phase, Queued, Recorder, Seat, Summary, View};

@@ -1,0 +1,254 @@
+/*
+ * Opens a hall, takes the steps of the bench card "the listing" and reads
+ * pages, and checks every value that comes back. Then refused calls, each of
+ * which must leave all lent bytes as they were.
+ *
+ * Each lent slice is allocated by itself with just the length that is lent, so
+ * that a memory checker sees any access outside it.
+ *
+ * The last line is 'N passed, M failed'.
+ */
+#include "hall.h"
+
+#include <stdio.h>
+#include <stdlib.h>
+#include <string.h>
+
+static unsigned passed;
+static unsigned failed;
+
+static void check(int holds, const char *what, unsigned line)
+{
+    if (holds) {
+        passed++;
+    } else {
+        failed++;
+        printf("smoke.c:%u: %s\n", line, what);
+    }
+}
+
+#define CHECK(holds) check((holds), #holds, __LINE__)
+
+/* A slice that holds one byte everywhere. */
+static uint8_t *filled(size_t length, uint8_t byte)
+{
+    /* malloc(0) may give a null pointer. */
+    uint8_t *bytes = malloc(length ? length : 1);
+    if (!bytes) {
+        puts("no memory");
+        exit(2);
+    }
+    memset(bytes, byte, length);
+    return bytes;
+}
+
+static int holds_only(const uint8_t *bytes, size_t from, size_t to, uint8_t byte)
+{
+    for (size_t i = from; i < to; i++) {
+        if (bytes[i] != byte) {
+            return 0;
+        }
+    }
+    return 1;
+}
+
+/* Whether a slice has the given first words, then zero words, and after them
+ * `rest` bytes 0xa5. */
+static int words_are(const uint8_t *bytes, size_t rest, const uint32_t *words, size_t count)
+{
+    for (size_t i = 0; i < HALL_WORDS; i++) {
+        if (hall_word(bytes, i) != (i < count ? words[i] : 0)) {
+            printf("word %u is %u\n", (unsigned)i, (unsigned)hall_word(bytes, i));
+            return 0;
+        }
+    }
+    return holds_only(bytes, HALL_ANSWER_LENGTH, HALL_ANSWER_LENGTH + rest, 0xa5);
+}
+
+/* Takes a step with a fresh slice for the answer. */
+static uint8_t *answer_of(uint8_t *hall, uint32_t k, uint32_t r, uint32_t a, uint32_t b, uint32_t *number)
+{
+    uint8_t *answer = filled(HALL_ANSWER_LENGTH, 0xa5);
+    *number = hall_step(hall, HALL_LENGTH, k, r, a, b, answer, HALL_ANSWER_LENGTH);
+    return answer;
+}
+
+/* Whether a step is performed with these words, the others 0. */
+static int step_gives(uint8_t *hall, uint32_t k, uint32_t r, uint32_t a, const uint32_t *words, size_t count)
+{
+    uint32_t number;
+    uint8_t *answer = answer_of(hall, k, r, a, 0, &number);
+    int ok = number == 0 && words_are(answer, 0, words, count);
+    free(answer);
+    return ok;
+}
+
+static int step_is_done(uint8_t *hall, uint32_t k, uint32_t r, uint32_t a)
+{
+    const uint32_t done[] = {HALL_CASE_DONE};
+    return step_gives(hall, k, r, a, done, 1);
+}
+
+/* Whether a step is refused with a number and leaves hall and answer. */
+static int step_refused(uint8_t *hall, uint32_t k, uint32_t r, uint32_t a, uint32_t b, uint32_t wanted)
+{
+    uint32_t number;
+    uint8_t *before = filled(HALL_LENGTH, 0);
+    memcpy(before, hall, HALL_LENGTH);
+    uint8_t *answer = answer_of(hall, k, r, a, b, &number);
+    int ok = number == wanted && memcmp(before, hall, HALL_LENGTH) == 0 &&
+             holds_only(answer, 0, HALL_ANSWER_LENGTH, 0xa5);
+    free(answer);
+    free(before);
+    return ok;
+}
+
+/* Whether the page with a place has these words; the slice lent for it is
+ * three bytes longer than a page. */
+static int page_gives(const uint8_t *hall, uint32_t r, uint32_t place, const uint32_t *words, size_t count)
+{
+    uint8_t *page = filled(HALL_ANSWER_LENGTH + 3, 0xa5);
+    uint32_t number = hall_page(hall, HALL_LENGTH, r, place, page, HALL_ANSWER_LENGTH + 3);
+    int ok = number == 0 && words_are(page, 3, words, count);
+    free(page);
+    return ok;
+}
+
+static int page_refused(const uint8_t *hall, size_t hall_len, uint32_t r, uint32_t place, size_t page_len,
+                        uint32_t wanted)
+{
+    uint8_t *page = filled(page_len, 0xa5);
+    uint32_t number = hall_page(hall, hall_len, r, place, page, page_len);
+    int ok = number == wanted && holds_only(page, 0, page_len, 0xa5);
+    free(page);
+    return ok;
+}
+
+/* The card: submit 700, label, send, place in view 1, receive, safe, confirm,
+ * deliver, deliver, in a hall of one recorder. */
+static void listing_card(void)
+{
+    const uint32_t entry[] = {HALL_CASE_ENTRY, 1, 1, 1, 1, 700};
+    const uint32_t from[] = {HALL_CASE_FROM, 1, 700};
+    const uint32_t opened[] = {1, 1, HALL_PHASE_NORMAL, 1, 1, 0, 0, 1, 1};
+    const uint32_t labelled[] = {1, 1, HALL_PHASE_NORMAL, 1, 1, 0, 1, 1, 1};
+    const uint32_t last[] = {1, 1, HALL_PHASE_NORMAL, 1, 1, 1, 0, 2, 2, 1, 1, 1, 700};
+    uint8_t *hall = filled(HALL_LENGTH, 0x5a);
+
+    CHECK(hall_open(hall, HALL_LENGTH, 1, 1) == 0);
+    CHECK(page_gives(hall, 1, 0, opened, 9));
+    CHECK(step_is_done(hall, HALL_SUBMIT, 1, 700));
+    CHECK(page_gives(hall, 1, 0, opened, 9));
+    CHECK(step_is_done(hall, HALL_LABEL, 1, 0));
+    CHECK(page_gives(hall, 1, 0, labelled, 9));
+    CHECK(step_is_done(hall, HALL_SEND_ENTRY, 1, 0));
+    CHECK(step_is_done(hall, HALL_PLACE, 1, 1));
+    CHECK(step_gives(hall, HALL_RECEIVE, 1, 0, entry, 6));
+    CHECK(step_gives(hall, HALL_SAFE, 1, 0, entry, 6));
+    CHECK(step_is_done(hall, HALL_CONFIRM, 1, 0));
+    CHECK(step_gives(hall, HALL_DELIVER, 1, 0, from, 3));
+    CHECK(step_refused(hall, HALL_DELIVER, 1, 0, 0, HALL_REFUSED_NOTHING));
+    CHECK(page_gives(hall, 1, 0, last, 9));
+    CHECK(page_gives(hall, 1, 1, last, 13));
+    CHECK(page_refused(hall, HALL_LENGTH, 1, 2, HALL_ANSWER_LENGTH, HALL_REFUSED_NOTHING));
+    free(hall);
+}
+
+/* A second view, whose exchange gives summaries. */
+static void second_view(void)
+{
+    const uint32_t summary[] = {HALL_CASE_SUMMARY, 2, 0, 0, 1, 1};
+    const uint32_t outside[] = {0, 0, HALL_PHASE_NORMAL, 0, 0, 0, 0, 1, 1};
+    const uint32_t sending[] = {2, 2, HALL_PHASE_SEND, 0, 1, 0, 0, 1, 1};
+    const uint32_t complete[] = {2, 2, HALL_PHASE_NORMAL, 0, 1, 0, 0, 1, 1};
+    uint8_t *hall = filled(HALL_LENGTH, 0);
+    uint32_t number;
+
+    CHECK(hall_open(hall, HALL_LENGTH, 3, 3) == 0);
+    CHECK(page_gives(hall, 3, 0, outside, 9));
+    free(answer_of(hall, HALL_FORM, 0, 2, 2, &number));
+    CHECK(number == 0);
+    CHECK(step_refused(hall, HALL_FORM, 0, 2, 2, HALL_REFUSED_NOT_RISING));
+    CHECK(step_refused(hall, HALL_ENTER, 1, 2, 0, HALL_REFUSED_NO_MEMBER));
+    CHECK(step_is_done(hall, HALL_ENTER, 2, 2));
+    CHECK(page_gives(hall, 2, 0, sending, 9));
+    CHECK(step_is_done(hall, HALL_SUBMIT, 2, 5));
+    CHECK(step_refused(hall, HALL_LABEL, 2, 0, 0, HALL_REFUSED_PHASE));
+    CHECK(step_is_done(hall, HALL_SEND_SUMMARY, 2, 0));
+    CHECK(step_is_done(hall, HALL_PLACE, 2, 2));
+    CHECK(step_refused(hall, HALL_SAFE, 2, 0, 0, HALL_REFUSED_NOT_YET));
+    CHECK(step_gives(hall, HALL_RECEIVE, 2, 0, summary, 6));
+    CHECK(page_gives(hall, 2, 0, complete, 9));
+    CHECK(step_gives(hall, HALL_SAFE, 2, 0, summary, 6));
+    CHECK(step_is_done(hall, HALL_LABEL, 2, 0));
+    free(hall);
+}
+
+/* Lengths, broken bytes and the order of refusals. */
+static void refused_calls(void)
+{
+    uint8_t *hall = filled(HALL_LENGTH, 0x5a);
+    uint8_t *shorter = filled(HALL_LENGTH - 1, 0);
+    uint8_t *none = filled(0, 0);
+
+    CHECK(hall_open(hall, HALL_LENGTH, 0, 0) == HALL_REFUSED_OPENING);
+    CHECK(hall_open(hall, HALL_LENGTH, 9, 0) == HALL_REFUSED_OPENING);
+    CHECK(hall_open(hall, HALL_LENGTH, 3, 8) == HALL_REFUSED_OPENING);
+    CHECK(hall_open(hall, HALL_LENGTH - 1, 3, 8) == HALL_REFUSED_OPENING);
+    CHECK(hall_open(hall, HALL_LENGTH - 1, 3, 0) == HALL_REFUSED_SHORT);
+    CHECK(hall_open(none, 0, 3, 0) == HALL_REFUSED_SHORT);
+    CHECK(holds_only(hall, 0, HALL_LENGTH, 0x5a));
+
+    CHECK(step_refused(hall, 12, 0, 0, 0, HALL_REFUSED_KIND));
+    CHECK(step_refused(hall, HALL_ENTER, 9, 0, 0, HALL_REFUSED_BYTES));
+    CHECK(page_refused(hall, HALL_LENGTH, 9, 0, 0, HALL_REFUSED_BYTES));
+
+    CHECK(hall_open(hall, HALL_LENGTH, 8, 0) == 0);
+    CHECK(step_refused(hall, 0, 1, 0, 0, HALL_REFUSED_KIND));
+    CHECK(step_refused(hall, HALL_ENTER, 9, 0, 0, HALL_REFUSED_RECORDER));
+    CHECK(step_refused(hall, HALL_LABEL, 1, 0, 1, HALL_REFUSED_UNUSED));
+    CHECK(step_refused(hall, HALL_ENTER, 1, 256, 0, HALL_REFUSED_VIEW_NUMBER));
+    CHECK(step_refused(hall, HALL_FORM, 0, 2, 256, HALL_REFUSED_SET));
+    CHECK(step_refused(hall, HALL_ENTER, 1, 2, 0, HALL_REFUSED_NOT_FORMED));
+    CHECK(step_refused(hall, HALL_ENTER, 1, 1, 0, HALL_REFUSED_NOT_ABOVE));
+    CHECK(page_refused(hall, HALL_LENGTH, 9, 1, 0, HALL_REFUSED_RECORDER));
+    CHECK(page_refused(hall, HALL_LENGTH, 8, 1, 0, HALL_REFUSED_NOTHING));
+    CHECK(page_refused(hall, HALL_LENGTH, 8, 0, HALL_ANSWER_LENGTH - 1, HALL_REFUSED_SHORT));
+
+    memcpy(shorter, hall, HALL_LENGTH - 1);
+    CHECK(hall_step(shorter, HALL_LENGTH - 1, HALL_SUBMIT, 1, 5, 0, none, 0) == HALL_REFUSED_BYTES);
+    CHECK(hall_step(none, 0, HALL_SUBMIT, 1, 5, 0, shorter, HALL_LENGTH - 1) == HALL_REFUSED_BYTES);
+    CHECK(page_refused(shorter, HALL_LENGTH - 1, 1, 0, HALL_ANSWER_LENGTH, HALL_REFUSED_BYTES));
+    CHECK(hall_step(hall, HALL_LENGTH, HALL_SUBMIT, 9, 5, 0, none, 0) == HALL_REFUSED_RECORDER);
+    CHECK(hall_step(hall, HALL_LENGTH, HALL_SUBMIT, 1, 5, 0, none, 0) == HALL_REFUSED_SHORT);
+    CHECK(memcmp(shorter, hall, HALL_LENGTH - 1) == 0);
+    free(none);
+    free(shorter);
+    free(hall);
+}
+
+/* Bytes past the end of a longer slice stay. */
+static void longer_slices(void)
+{
+    const size_t rest = 1000;
+    const uint32_t done[] = {HALL_CASE_DONE};
+    uint8_t *hall = filled(HALL_LENGTH + rest, 0xa5);
+    uint8_t *answer = filled(HALL_ANSWER_LENGTH + rest, 0xa5);
+
+    CHECK(hall_open(hall, HALL_LENGTH + rest, 2, 0) == 0);
+    CHECK(hall_step(hall, HALL_LENGTH + rest, HALL_SUBMIT, 2, 5, 0, answer, HALL_ANSWER_LENGTH + rest) == 0);
+    CHECK(words_are(answer, rest, done, 1));
+    CHECK(holds_only(hall, HALL_LENGTH, HALL_LENGTH + rest, 0xa5));
+    free(answer);
+    free(hall);
+}
+
+int main(void)
+{
+    listing_card();
+    second_view();
+    refused_calls();
+    longer_slices();
+    printf("%u passed, %u failed\n", passed, failed);
+    return failed != 0;
+}

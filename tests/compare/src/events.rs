@@ -1,0 +1,187 @@
+//! Steps of special interest, told apart by the hall before and after them, so
+//! that the tests can ask that each of them came.
+
+use reference::hall::{at_mark, is_quorum, LAST_SEQ, MOST_LABELS};
+use reference::{Hall, Message, Phase, Recorder, Seat, View};
+
+/// The events that random calls must meet.
+pub const EVENTS: [&str; 18] = [
+    SEQUENCE_FULL,
+    BUFFER_FULL,
+    LABEL_EXISTS,
+    SUMMARY_SENT,
+    PENDING_FULL,
+    ORDER_FULL,
+    BUILT_TOO_LONG,
+    COMPLETED_PRIMARY,
+    COMPLETED_OTHER,
+    HEARD_AGAIN,
+    ENTRY_PRIMARY,
+    ENTRY_OTHER,
+    SAFE_PRIMARY,
+    SAFE_OTHER,
+    NOTICE_ALL_HEARD,
+    NOTICE_SOME_HEARD,
+    NOTICE_NONE_HEARD,
+    NOTICE_LONG,
+];
+
+const SEQUENCE_FULL: &str = "label: the sequence number is 65";
+const BUFFER_FULL: &str = "label: the buffer is full";
+const LABEL_EXISTS: &str = "label: the label exists";
+const SUMMARY_SENT: &str = "send summary: one was sent";
+const PENDING_FULL: &str = "send summary: pending is full";
+const ORDER_FULL: &str = "receive: an entry meets a full order";
+const BUILT_TOO_LONG: &str = "receive: the built order is too long";
+const COMPLETED_PRIMARY: &str = "receive: the last summary, primary";
+const COMPLETED_OTHER: &str = "receive: the last summary, not primary";
+const HEARD_AGAIN: &str = "receive: a summary heard before";
+const ENTRY_PRIMARY: &str = "receive: an entry, primary";
+const ENTRY_OTHER: &str = "receive: an entry, not primary";
+const SAFE_PRIMARY: &str = "safe: an entry, primary";
+const SAFE_OTHER: &str = "safe: an entry, not primary";
+const NOTICE_ALL_HEARD: &str = "safe: the last summary, all heard";
+const NOTICE_SOME_HEARD: &str = "safe: the last summary, some heard";
+const NOTICE_NONE_HEARD: &str = "safe: the last summary, none heard";
+const NOTICE_LONG: &str = "safe: the last summary, of an order past 64";
+
+/// What is kept of the hall before a step of kinds 2, 4, 8 and 9.
+pub struct Before {
+    next_seq: u32,
+    buffer: usize,
+    phase: Phase,
+    heard: u32,
+    safe_sources: u32,
+    summary_sent: bool,
+    members: u32,
+    primary: bool,
+    /// The message at the mark of kinds 8 and 9, and its source.
+    message: Option<(Message, u32)>,
+    /// How long the order would be that the heard summaries build.
+    built: usize,
+}
+
+/// How long the order is that the summaries of some sources build.
+fn built_length(view: &View, heard: u32) -> usize {
+    let sent = |k: u32| view.seat(k).summary.as_ref();
+    let sources = (1..=view.seats.len() as u32).filter(|k| heard >> (k - 1) & 1 != 0);
+    let summaries: Vec<_> = sources.filter_map(sent).collect();
+    let mut chosen = summaries.first();
+    for summary in &summaries {
+        if chosen.is_some_and(|best| summary.high >= best.high) {
+            chosen = Some(summary);
+        }
+    }
+    let mut order = chosen.map_or(Vec::new(), |summary| summary.order.clone());
+    for summary in &summaries {
+        for entry in (0..64).filter(|entry| summary.known >> entry & 1 != 0) {
+            if !order.contains(&entry) {
+                order.push(entry);
+            }
+        }
+    }
+    order.len()
+}
+
+fn look(hall: &Hall, recorder: &Recorder, view: &View, seat: &Seat, kind: u32) -> Before {
+    let mark = if kind == 8 { seat.receive } else { seat.safe };
+    let queued = at_mark(&view.queue, mark);
+    let last_notice = kind == 9 && matches!(queued, Some(q) if q.message == Message::Summary);
+    Before {
+        next_seq: recorder.next_seq,
+        buffer: recorder.buffer.len(),
+        phase: recorder.phase,
+        heard: recorder.heard,
+        safe_sources: recorder.safe_sources,
+        summary_sent: seat.summary.is_some(),
+        members: view.members,
+        primary: is_quorum(hall.n, view.members),
+        message: queued.map(|q| (q.message, q.source)),
+        built: if last_notice {
+            built_length(view, recorder.heard)
+        } else {
+            0
+        },
+    }
+}
+
+/// Looks at the hall before a step.
+pub fn before(hall: Option<&Hall>, [k, r, _, _]: [u32; 4]) -> Option<Before> {
+    let hall = hall?;
+    if !matches!(k, 2 | 4 | 8 | 9) || !(1..=hall.n).contains(&r) {
+        return None;
+    }
+    let view = &hall.views[hall.current_index(r)?];
+    Some(look(hall, hall.recorder(r), view, view.seat(r), k))
+}
+
+/// The event of a step, if it has one.
+pub fn event(
+    before: Option<Before>,
+    hall: Option<&Hall>,
+    [k, r, _, _]: [u32; 4],
+    number: u32,
+) -> Option<&'static str> {
+    let before = before?;
+    match (k, number) {
+        (2, 40) => Some(full_label(&before)),
+        (4, 40) if before.summary_sent => Some(SUMMARY_SENT),
+        (4, 40) => Some(PENDING_FULL),
+        (8, 40) => match before.message?.0 {
+            Message::Entry(_) => Some(ORDER_FULL),
+            Message::Summary => Some(BUILT_TOO_LONG),
+        },
+        (8, 0) => received(&before, hall?.recorder(r)),
+        (9, 0) => noticed(&before),
+        _ => None,
+    }
+}
+
+fn full_label(before: &Before) -> &'static str {
+    if before.next_seq > LAST_SEQ {
+        SEQUENCE_FULL
+    } else if before.buffer >= MOST_LABELS {
+        BUFFER_FULL
+    } else {
+        LABEL_EXISTS
+    }
+}
+
+fn received(before: &Before, after: &Recorder) -> Option<&'static str> {
+    match (before.message?, before.primary) {
+        ((Message::Entry(_), _), true) => Some(ENTRY_PRIMARY),
+        ((Message::Entry(_), _), false) => Some(ENTRY_OTHER),
+        _ if before.phase == Phase::Collect && after.phase == Phase::Normal => {
+            Some(if before.primary {
+                COMPLETED_PRIMARY
+            } else {
+                COMPLETED_OTHER
+            })
+        }
+        ((Message::Summary, source), _) if before.heard >> (source - 1) & 1 != 0 => {
+            Some(HEARD_AGAIN)
+        }
+        _ => None,
+    }
+}
+
+fn noticed(before: &Before) -> Option<&'static str> {
+    let (message, source) = before.message?;
+    if let Message::Entry(_) = message {
+        return Some(if before.primary {
+            SAFE_PRIMARY
+        } else {
+            SAFE_OTHER
+        });
+    }
+    let last = before.safe_sources | 1 << (source - 1) == before.members;
+    if !(last && before.primary) {
+        return None;
+    }
+    Some(match before.heard {
+        0 => NOTICE_NONE_HEARD,
+        _ if before.built > MOST_LABELS => NOTICE_LONG,
+        heard if heard == before.members => NOTICE_ALL_HEARD,
+        _ => NOTICE_SOME_HEARD,
+    })
+}

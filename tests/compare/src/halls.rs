@@ -1,0 +1,285 @@
+//! Random halls with every field in 01's ranges and all rules between fields
+//! kept, most of which no run reaches.
+
+use crate::random::Random;
+use reference::hall::{
+    LAST_ORDER_MARK, LAST_QUEUE_MARK, LAST_SEQ, LAST_VIEW, MOST_ENTRIES, MOST_LABELS, MOST_PENDING,
+    MOST_QUEUED, MOST_VIEWS,
+};
+use reference::{Entry, Hall, Label, Message, Phase, Queued, Recorder, Seat, Summary, View};
+
+/// What a hall is full of, drawn once for each hall.
+struct Style {
+    n: u32,
+    /// Most summaries are sent and queued, and recorders collect them.
+    exchange: bool,
+    /// Most messages have been received.
+    received: bool,
+    /// Label views, sequence numbers and marks are low.
+    low: bool,
+    /// Lists are mostly short.
+    sparse: bool,
+}
+
+impl Style {
+    fn random(random: &mut Random) -> Style {
+        Style {
+            n: random.between(1, 8),
+            exchange: random.coin(),
+            received: random.coin(),
+            low: random.coin(),
+            sparse: random.coin(),
+        }
+    }
+}
+
+/// How long a list is: often empty, short, full, or one place short of full.
+fn length(random: &mut Random, style: &Style, most: usize) -> usize {
+    let short = random.below(5).min(most);
+    if style.sparse && !random.one_in(6) {
+        return short;
+    }
+    match random.below(6) {
+        0 => 0,
+        1 => most,
+        2 => most - 1,
+        3 => short,
+        _ => random.below(most + 1),
+    }
+}
+
+fn entries(random: &mut Random, style: &Style) -> Vec<Entry> {
+    let count = match random.below(5) {
+        0 => 0,
+        1 => MOST_ENTRIES,
+        2 => random.below(6),
+        _ => random.below(MOST_ENTRIES + 1),
+    };
+    // How many entries in four have no label.
+    let waiting = random.pick(&[0, 0, 1, 2, 4]);
+    let mut entries: Vec<Entry> = Vec::new();
+    for _ in 0..count {
+        let sender = random.between(1, style.n);
+        let label = Label {
+            view: random.between(1, if style.low { 4 } else { LAST_VIEW }),
+            seq: random.between(1, LAST_SEQ),
+            sender,
+        };
+        let taken = entries.iter().any(|entry| entry.label == Some(label));
+        entries.push(Entry {
+            sender,
+            value: random.word() >> random.below(32),
+            label: (!taken && random.below(4) >= waiting).then_some(label),
+        });
+    }
+    entries
+}
+
+/// What lists and sets may name: the labelled entries.
+struct Names(Vec<usize>);
+
+impl Names {
+    fn of(entries: &[Entry]) -> Names {
+        let labelled = |&entry: &usize| entries[entry].label.is_some();
+        Names((0..entries.len()).filter(labelled).collect())
+    }
+
+    fn list(&self, random: &mut Random, style: &Style) -> Vec<usize> {
+        let count = length(random, style, MOST_LABELS);
+        (0..count)
+            .filter_map(|_| random.pick_any(&self.0))
+            .collect()
+    }
+
+    /// None, all, or any of them.
+    fn set(&self, random: &mut Random) -> u64 {
+        let mask = match random.below(4) {
+            0 => 0,
+            1 => u64::MAX,
+            2 => random.next() & random.next(),
+            _ => random.next(),
+        };
+        self.0.iter().fold(0, |set, entry| set | 1 << entry) & mask
+    }
+}
+
+/// Rising numbers of views, low ones or any.
+fn numbers(random: &mut Random, style: &Style) -> Vec<u32> {
+    let count = match random.below(4) {
+        0 => random.below(MOST_VIEWS + 1),
+        1 if style.sparse => 0,
+        1 => MOST_VIEWS,
+        _ => 1 + random.below(3),
+    };
+    let mut numbers: Vec<u32> = Vec::new();
+    while numbers.len() < count {
+        let most = if style.low && count <= 4 {
+            6
+        } else {
+            LAST_VIEW
+        };
+        let number = random.between(1, most);
+        if !numbers.contains(&number) {
+            numbers.push(number);
+        }
+    }
+    numbers.sort_unstable();
+    numbers
+}
+
+fn summary(random: &mut Random, style: &Style, names: &Names) -> Summary {
+    Summary {
+        known: names.set(random),
+        order: names.list(random, style),
+        confirm: random.between(1, LAST_ORDER_MARK),
+        high: random.between(0, if style.low { 3 } else { LAST_VIEW }),
+    }
+}
+
+/// A message of a member, if there is anything it can name.
+fn message(random: &mut Random, style: &Style, names: &Names, sent: bool) -> Option<Message> {
+    let summary_in = if style.exchange { 2 } else { 6 };
+    if sent && random.one_in(summary_in) {
+        return Some(Message::Summary);
+    }
+    let entry = random.pick_any(&names.0).map(Message::Entry);
+    entry.or(sent.then_some(Message::Summary))
+}
+
+/// A mark within a queue or just after it, or any.
+fn queue_mark(random: &mut Random, queue: usize) -> u32 {
+    if random.one_in(4) {
+        random.between(1, LAST_QUEUE_MARK)
+    } else {
+        1 + random.below(queue + 1) as u32
+    }
+}
+
+fn seat(random: &mut Random, style: &Style, names: &Names, member: bool) -> Seat {
+    let sent = member && random.below(8) < if style.exchange { 7 } else { 3 };
+    let count = if member {
+        length(random, style, MOST_PENDING)
+    } else {
+        0
+    };
+    let message = |_| message(random, style, names, sent);
+    let pending = (0..count).filter_map(message).collect();
+    Seat {
+        pending,
+        receive: 1,
+        safe: 1,
+        summary: sent.then(|| summary(random, style, names)),
+    }
+}
+
+fn queue(random: &mut Random, style: &Style, names: &Names, view: &View) -> Vec<Queued> {
+    let members: Vec<u32> = (1..=style.n).filter(|&k| view.has(k)).collect();
+    let count = length(random, style, MOST_QUEUED);
+    let queued = |_| {
+        let source = random.pick(&members);
+        let sent = view.seat(source).summary.is_some();
+        let message = message(random, style, names, sent)?;
+        Some(Queued { source, message })
+    };
+    (0..count).filter_map(queued).collect()
+}
+
+fn view(random: &mut Random, style: &Style, names: &Names, number: u32) -> View {
+    let all = (1 << style.n) - 1;
+    let members = if random.one_in(3) {
+        all
+    } else {
+        random.between(1, all)
+    };
+    let mut view = View::formed(style.n, number, members);
+    for k in 1..=style.n {
+        *view.seat_mut(k) = seat(random, style, names, members >> (k - 1) & 1 != 0);
+    }
+    view.queue = queue(random, style, names, &view);
+    for seat in &mut view.seats {
+        seat.receive = queue_mark(random, view.queue.len());
+        seat.safe = queue_mark(random, view.queue.len());
+        if style.received && !random.one_in(8) {
+            seat.receive = LAST_QUEUE_MARK;
+        }
+    }
+    view
+}
+
+/// The sources that may be marked heard, all but one of them, or any of them.
+fn sources(random: &mut Random, allowed: u32) -> u32 {
+    match random.below(4) {
+        0 => allowed,
+        1 => allowed & !(1 << random.below(8)),
+        2 => 0,
+        _ => allowed & random.word(),
+    }
+}
+
+/// A next sequence number, often past the last one or that of a label of K.
+fn next_seq(random: &mut Random, entries: &[Entry], k: u32) -> u32 {
+    let labels = entries.iter().filter_map(|entry| entry.label);
+    let used: Vec<u32> = labels.filter(|l| l.sender == k).map(|l| l.seq).collect();
+    match random.below(4) {
+        0 => LAST_SEQ + 1,
+        1 | 2 if !used.is_empty() => random.pick(&used),
+        _ => random.between(1, LAST_SEQ + 1),
+    }
+}
+
+fn recorder(
+    random: &mut Random,
+    style: &Style,
+    entries: &[Entry],
+    views: &[View],
+    k: u32,
+) -> Recorder {
+    let names = &Names::of(entries);
+    let own: Vec<usize> = (0..views.len()).filter(|&i| views[i].has(k)).collect();
+    let chosen = random.pick_any(&own).filter(|_| !random.one_in(8));
+    let view = chosen.map(|index| &views[index]);
+    let members = view.map_or(0, |view| view.members);
+    let sent = view.map_or(0, |view| {
+        let sent = (1..=style.n).filter(|&source| view.seat(source).summary.is_some());
+        sent.fold(0, |set, source| set | 1 << (source - 1))
+    });
+    let phases = [Phase::Normal, Phase::Send, Phase::Collect];
+    let mark = |random: &mut Random| random.between(1, if style.low { 8 } else { LAST_ORDER_MARK });
+    Recorder {
+        current: view.map_or(0, |view| view.number),
+        phase: if style.exchange && random.coin() {
+            Phase::Collect
+        } else {
+            random.pick(&phases)
+        },
+        known: names.set(random),
+        next_seq: next_seq(random, entries, k),
+        buffer: names.list(random, style),
+        order: names.list(random, style),
+        safe_labels: names.set(random),
+        confirm: mark(random),
+        report: mark(random),
+        high: random.between(0, LAST_VIEW),
+        heard: sources(random, members & sent),
+        safe_sources: sources(random, members),
+    }
+}
+
+/// A random hall.
+pub fn hall(random: &mut Random) -> Hall {
+    let style = Style::random(random);
+    let entries = entries(random, &style);
+    let names = Names::of(&entries);
+    let numbers = numbers(random, &style);
+    let formed = numbers.into_iter();
+    let views: Vec<View> = formed.map(|k| view(random, &style, &names, k)).collect();
+    let recorders = 1..=style.n;
+    let recorders = recorders.map(|k| recorder(random, &style, &entries, &views, k));
+    let recorders = recorders.collect();
+    Hall {
+        n: style.n,
+        entries,
+        views,
+        recorders,
+    }
+}

@@ -1,0 +1,15 @@
+//! Calls of the library's C interface, random calls and halls, and the
+//! comparison with the second implementation. `main.rs` runs the tests.
+
+pub mod actions;
+pub mod counts;
+pub mod damage;
+pub mod events;
+pub mod halls;
+pub mod library;
+pub mod offsets;
+pub mod openings;
+pub mod pair;
+pub mod random;
+pub mod runs;
+pub mod vectors;

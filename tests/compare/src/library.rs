@@ -1,0 +1,109 @@
+//! The library's three calls (include/hall.h), on slices that lie between
+//! guards.
+
+extern "C" {
+    fn hall_open(hall: *mut u8, hall_len: usize, n: u32, founders: u32) -> u32;
+
+    fn hall_step(
+        hall: *mut u8,
+        hall_len: usize,
+        k: u32,
+        r: u32,
+        a: u32,
+        b: u32,
+        answer: *mut u8,
+        answer_len: usize,
+    ) -> u32;
+
+    fn hall_page(
+        hall: *const u8,
+        hall_len: usize,
+        r: u32,
+        place: u32,
+        page: *mut u8,
+        page_len: usize,
+    ) -> u32;
+}
+
+/// Bytes before and after an area. An odd number, so that an area has no
+/// alignment.
+const GUARD: usize = 67;
+
+fn guard_byte(at: usize) -> u8 {
+    (at as u8).wrapping_mul(29) ^ 0xc3
+}
+
+/// An area of bytes of which the first `length` are lent to the library.
+pub struct Lent {
+    memory: Vec<u8>,
+    length: usize,
+}
+
+impl Lent {
+    pub fn new(area: &[u8], length: usize) -> Lent {
+        assert!(length <= area.len());
+        let mut memory: Vec<u8> = (0..area.len() + 2 * GUARD).map(guard_byte).collect();
+        memory[GUARD..GUARD + area.len()].copy_from_slice(area);
+        Lent { memory, length }
+    }
+
+    pub fn length(&self) -> usize {
+        self.length
+    }
+
+    /// The whole area, also what is not lent.
+    pub fn area(&self) -> &[u8] {
+        &self.memory[GUARD..self.memory.len() - GUARD]
+    }
+
+    pub fn area_mut(&mut self) -> &mut [u8] {
+        let end = self.memory.len() - GUARD;
+        &mut self.memory[GUARD..end]
+    }
+
+    pub fn guards_stand(&self) -> bool {
+        let end = self.memory.len() - GUARD;
+        let stands = |at: usize| self.memory[at] == guard_byte(at);
+        (0..GUARD).all(stands) && (end..end + GUARD).all(stands)
+    }
+
+    fn pointer(&mut self) -> *mut u8 {
+        self.area_mut().as_mut_ptr()
+    }
+}
+
+pub fn open(hall: &mut Lent, n: u32, founders: u32) -> u32 {
+    // Safety: the pointer is that of `length` bytes, lent to this call alone.
+    unsafe { hall_open(hall.pointer(), hall.length, n, founders) }
+}
+
+pub fn step(hall: &mut Lent, [k, r, a, b]: [u32; 4], answer: &mut Lent) -> u32 {
+    // Safety: as above, for two areas that do not overlap.
+    unsafe {
+        hall_step(
+            hall.pointer(),
+            hall.length,
+            k,
+            r,
+            a,
+            b,
+            answer.pointer(),
+            answer.length,
+        )
+    }
+}
+
+pub fn page(hall: &mut Lent, r: u32, place: u32, page: &mut Lent) -> u32 {
+    // Safety: as above. The hall is lent as mutable memory, so that a call that
+    // writes into it is a difference to be found and not more.
+    unsafe {
+        hall_page(
+            hall.pointer(),
+            hall.length,
+            r,
+            place,
+            page.pointer(),
+            page.length,
+        )
+    }
+}

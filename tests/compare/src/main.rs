@@ -1,0 +1,189 @@
+//! The library's C interface beside the second implementation: the same calls
+//! on the same bytes give the same numbers, answers and bytes.
+//!
+//!     compare [--times K] [--part K] [--seed S] [--every-value] [--threads T] [--stop]
+//!
+//! `--times K` takes K times as many seeds, `--part K` one in K, `--seed S`
+//! starts them at S instead of 1, `--every-value` sets each byte of a hall to
+//! all other values, and `--stop` ends after the first test that failed. A
+//! failure names its test and seed. The last line is 'N passed, M failed'.
+
+use compare::counts::Counts;
+use compare::pair::Difference;
+use compare::{damage, events, offsets, openings, runs, vectors};
+use std::env;
+use std::process::ExitCode;
+use std::sync::atomic::{AtomicU64, Ordering};
+use std::sync::Mutex;
+use std::thread;
+use std::time::Instant;
+
+/// A test takes a seed, counts its calls, and says what differs.
+type Test = fn(u64, &mut Counts) -> Result<(), Difference>;
+
+/// The tests, each with its number of seeds; 1 for those that use none.
+const TESTS: [(&str, Test, u64); 10] = [
+    ("offsets by hand", offsets::by_hand, 1),
+    ("vectors", vectors::all, 1),
+    ("all openings", openings::all, 1),
+    ("any openings", openings::any, 32),
+    ("offsets of halls", offsets::of_halls, 1_000),
+    ("opened halls", runs::opened, 320),
+    ("odd halls", runs::odd, 400),
+    ("damaged bytes", damage::some_values, 48),
+    ("damaged records", damage::records, 100),
+    ("lengths", damage::lengths, 100),
+];
+
+/// In place of "damaged bytes", on request.
+const EVERY_VALUE: (&str, Test, u64) = ("every value of every byte", damage::all_values, 256);
+
+/// A test ends when this many seeds have failed.
+const ENOUGH: usize = 5;
+
+struct Options {
+    times: u64,
+    part: u64,
+    first_seed: u64,
+    every_value: bool,
+    threads: usize,
+    stop: bool,
+}
+
+fn options() -> Result<Options, String> {
+    let mut options = Options {
+        times: 1,
+        part: 1,
+        first_seed: 1,
+        every_value: false,
+        threads: thread::available_parallelism().map_or(1, usize::from),
+        stop: false,
+    };
+    let mut words = env::args().skip(1);
+    while let Some(word) = words.next() {
+        let mut number = || {
+            let number = words.next().and_then(|text| text.parse::<u64>().ok());
+            number.ok_or(format!("{word} takes a number"))
+        };
+        match word.as_str() {
+            "--times" => options.times = number()?,
+            "--part" => options.part = number()?.max(1),
+            "--seed" => options.first_seed = number()?,
+            "--threads" => options.threads = number()?.max(1) as usize,
+            "--every-value" => options.every_value = true,
+            "--stop" => options.stop = true,
+            _ => return Err(format!("{word} is no option")),
+        }
+    }
+    Ok(options)
+}
+
+/// What came of a test.
+struct Outcome {
+    counts: Counts,
+    /// The seeds that failed, with what differs.
+    failures: Vec<(u64, Difference)>,
+}
+
+/// Runs a test with seeds from `first` on, on several threads.
+fn run(test: Test, first: u64, seeds: u64, threads: usize) -> Outcome {
+    let next = AtomicU64::new(first);
+    let outcome = Mutex::new(Outcome {
+        counts: Counts::default(),
+        failures: Vec::new(),
+    });
+    let work = || loop {
+        let seed = next.fetch_add(1, Ordering::Relaxed);
+        if seed >= first + seeds {
+            return;
+        }
+        let mut counts = Counts::default();
+        let result = test(seed, &mut counts);
+        let mut outcome = outcome.lock().expect("no test panics");
+        outcome.counts.add(counts);
+        if let Err(what) = result {
+            outcome.failures.push((seed, what));
+            if outcome.failures.len() == ENOUGH {
+                next.store(first + seeds, Ordering::Relaxed);
+            }
+        }
+    };
+    thread::scope(|scope| {
+        for _ in 0..threads {
+            scope.spawn(work);
+        }
+    });
+    outcome.into_inner().expect("no test panics")
+}
+
+/// Prints a test's seeds and failures; whether it passed.
+fn report(name: &str, first: u64, seeds: u64, outcome: &Outcome, seconds: f64) -> bool {
+    let calls = outcome.counts.calls;
+    let last = first + seeds - 1;
+    println!("{name}: seeds {first} to {last}, {calls} calls, {seconds:.1} s");
+    for (seed, what) in &outcome.failures {
+        println!("  failed: seed {seed}: {what}");
+    }
+    if calls == 0 {
+        println!("  failed: no call was made");
+    }
+    outcome.failures.is_empty() && calls != 0
+}
+
+/// Whether everything that must have come did come.
+fn report_counts(counts: &Counts) -> bool {
+    println!("through the C interface:\n{counts}");
+    let mut events = events::EVENTS.to_vec();
+    events.extend([damage::STILL_A_HALL, damage::NO_HALL]);
+    let missing = counts.missing(&events);
+    for what in &missing {
+        println!("  failed: never came: {what}");
+    }
+    missing.is_empty()
+}
+
+fn main() -> ExitCode {
+    let options = match options() {
+        Ok(options) => options,
+        Err(what) => {
+            println!("{what}\n0 passed, 1 failed");
+            return ExitCode::FAILURE;
+        }
+    };
+    let mut sum = Counts::default();
+    let mut passed = 0;
+    let mut failed = 0;
+    for (name, test, seeds) in TESTS {
+        let (name, test, seeds) = match name {
+            "damaged bytes" if options.every_value => EVERY_VALUE,
+            _ => (name, test, seeds),
+        };
+        // A test of one seed uses none.
+        let (first, seeds) = match seeds {
+            1 => (1, 1),
+            _ => (
+                options.first_seed,
+                (seeds * options.times).div_ceil(options.part),
+            ),
+        };
+        let begin = Instant::now();
+        let outcome = run(test, first, seeds, options.threads);
+        let seconds = begin.elapsed().as_secs_f64();
+        let well = report(name, first, seeds, &outcome, seconds);
+        sum.add(outcome.counts);
+        *(if well { &mut passed } else { &mut failed }) += 1;
+        if options.stop && !well {
+            break;
+        }
+    }
+    if failed == 0 {
+        let well = report_counts(&sum);
+        *(if well { &mut passed } else { &mut failed }) += 1;
+    }
+    println!("{passed} passed, {failed} failed");
+    if failed == 0 {
+        ExitCode::SUCCESS
+    } else {
+        ExitCode::FAILURE
+    }
+}

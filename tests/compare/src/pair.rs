@@ -1,0 +1,230 @@
+//! A hall's bytes on both sides: those that the library is lent, and those
+//! that they must be by the second implementation. Every call is made on both,
+//! and number, answer and all bytes are compared.
+
+use crate::counts::{Call, Counts};
+use crate::events;
+use crate::library::{self, Lent};
+use crate::random::Random;
+use reference::calls::{self, ANSWER_LENGTH, WORDS};
+use reference::{open, refusal, stored, Hall};
+
+/// What differs, in words.
+pub type Difference = String;
+
+pub struct Pair {
+    /// The hall that the bytes hold; none if they are no hall's form.
+    hall: Option<Hall>,
+    /// What the whole area must be.
+    wanted: Vec<u8>,
+    lent: Lent,
+}
+
+/// What a slice for an answer holds before the call.
+fn answer_before(at: usize) -> u8 {
+    (at as u8).wrapping_mul(53) ^ 0x5c
+}
+
+/// A slice for an answer, and more bytes that are not lent.
+fn answer_slice(length: usize) -> Lent {
+    let area: Vec<u8> = (0..length + 8).map(answer_before).collect();
+    Lent::new(&area, length)
+}
+
+/// What the area of an answer must be after a call.
+fn answer_after(length: usize, words: Option<&[u32; WORDS]>) -> Vec<u8> {
+    let mut area: Vec<u8> = (0..length + 8).map(answer_before).collect();
+    if let Some(words) = words {
+        for (bytes, word) in area.chunks_exact_mut(4).zip(words) {
+            bytes.copy_from_slice(&word.to_le_bytes());
+        }
+    }
+    area
+}
+
+/// The words at the start of an answer's area.
+fn words_of(area: &[u8]) -> [u32; WORDS] {
+    let mut words = [0; WORDS];
+    for (word, bytes) in words.iter_mut().zip(area.chunks_exact(4)) {
+        *word = u32::from_le_bytes([bytes[0], bytes[1], bytes[2], bytes[3]]);
+    }
+    words
+}
+
+/// Mostly the length of an answer, else a length about it.
+pub fn random_room(random: &mut Random) -> usize {
+    match random.below(60) {
+        0 => ANSWER_LENGTH - 1,
+        1 => random.below(ANSWER_LENGTH),
+        2 => ANSWER_LENGTH + 1,
+        3 => ANSWER_LENGTH + random.below(100),
+        _ => ANSWER_LENGTH,
+    }
+}
+
+/// The first place where two slices differ.
+fn first_difference(is: &[u8], wanted: &[u8]) -> String {
+    match is.iter().zip(wanted).position(|(a, b)| a != b) {
+        Some(at) => format!("byte {at} is {}, must be {}", is[at], wanted[at]),
+        None => "the lengths differ".to_string(),
+    }
+}
+
+impl Pair {
+    /// An area that holds what it holds, of which the first `length` bytes are
+    /// lent.
+    pub fn of_bytes(area: Vec<u8>, length: usize) -> Pair {
+        let lent = Lent::new(&area, length);
+        Pair {
+            hall: stored::read(&area[..length]),
+            wanted: area,
+            lent,
+        }
+    }
+
+    /// A hall, followed by more lent bytes.
+    pub fn of_hall(hall: Hall, rest: &[u8]) -> Pair {
+        let mut area = stored::form(&hall);
+        area.extend_from_slice(rest);
+        let lent = Lent::new(&area, area.len());
+        Pair {
+            hall: Some(hall),
+            wanted: area,
+            lent,
+        }
+    }
+
+    pub fn hall(&self) -> Option<&Hall> {
+        self.hall.as_ref()
+    }
+
+    /// The bytes that the library has left.
+    pub fn lent(&self) -> &[u8] {
+        self.lent.area()
+    }
+
+    /// Changes bytes from outside, on both sides.
+    pub fn change(&mut self, change: impl Fn(&mut [u8])) {
+        change(&mut self.wanted);
+        change(self.lent.area_mut());
+        self.hall = stored::read(&self.wanted[..self.lent.length()]);
+    }
+
+    /// Compares all bytes; `answer` is the answer's area and what it must be.
+    fn compare(&self, answer: Option<(&Lent, Vec<u8>)>) -> Result<(), Difference> {
+        if self.lent.area() != self.wanted {
+            let what = first_difference(self.lent.area(), &self.wanted);
+            return Err(format!("the hall's {what}"));
+        }
+        if !self.lent.guards_stand() {
+            return Err("a byte outside the hall's slice was written".to_string());
+        }
+        let Some((answer, wanted)) = answer else {
+            return Ok(());
+        };
+        if answer.area() != wanted {
+            let what = first_difference(answer.area(), &wanted);
+            return Err(format!("the answer's {what}"));
+        }
+        if !answer.guards_stand() {
+            return Err("a byte outside the answer's slice was written".to_string());
+        }
+        Ok(())
+    }
+
+    pub fn open(&mut self, n: u32, founders: u32, counts: &mut Counts) -> Result<u32, Difference> {
+        let room = self.lent.length() >= stored::LENGTH;
+        let opened = open(n, founders);
+        let wanted = match &opened {
+            Err(number) => *number,
+            Ok(_) if !room => refusal::SHORT_SLICE,
+            Ok(_) => 0,
+        };
+        let number = library::open(&mut self.lent, n, founders);
+        let at = |what: Difference| format!("open {n} {founders}: {what}");
+        if number != wanted {
+            return Err(at(format!("number {number}, must be {wanted}")));
+        }
+        if let (0, Ok(hall)) = (number, opened) {
+            stored::write(&hall, &mut self.wanted);
+            self.hall = Some(hall);
+        }
+        counts.call(Call::Open, number, 0);
+        self.compare(None).map_err(at)?;
+        Ok(number)
+    }
+
+    /// A step with a slice of `room` bytes for the answer. Gives the library's
+    /// number.
+    pub fn step(
+        &mut self,
+        action: [u32; 4],
+        room: usize,
+        counts: &mut Counts,
+    ) -> Result<u32, Difference> {
+        self.answer(action, room, counts).map(|(number, _)| number)
+    }
+
+    /// A step; gives the library's number, and its words if that is 0.
+    pub fn answer(
+        &mut self,
+        action: [u32; 4],
+        room: usize,
+        counts: &mut Counts,
+    ) -> Result<(u32, [u32; WORDS]), Difference> {
+        let before = events::before(self.hall.as_ref(), action);
+        let wanted = calls::step_hall(self.hall.as_mut(), action, room >= ANSWER_LENGTH);
+        let mut answer = answer_slice(room);
+        let number = library::step(&mut self.lent, action, &mut answer);
+        let at = |what: Difference| format!("step {action:?}: {what}");
+        if number != wanted.err().unwrap_or(0) {
+            return Err(at(format!("number {number}, wanted {wanted:?}")));
+        }
+        if let (Ok(_), Some(hall)) = (wanted, &self.hall) {
+            stored::write(hall, &mut self.wanted);
+        }
+        let after = answer_after(room, wanted.as_ref().ok());
+        self.compare(Some((&answer, after))).map_err(at)?;
+        let words = if number == 0 {
+            words_of(answer.area())
+        } else {
+            [0; WORDS]
+        };
+        let kind = if action[0] <= 11 { action[0] } else { 0 };
+        counts.call(Call::Step(kind), number, words[0]);
+        if let Some(event) = events::event(before, self.hall.as_ref(), action, number) {
+            counts.event(event);
+        }
+        Ok((number, words))
+    }
+
+    /// A page with a slice of `room` bytes for it.
+    pub fn page(
+        &mut self,
+        r: u32,
+        place: u32,
+        room: usize,
+        counts: &mut Counts,
+    ) -> Result<u32, Difference> {
+        let wanted = calls::page_of(self.hall.as_ref(), r, place, room >= ANSWER_LENGTH);
+        let mut page = answer_slice(room);
+        let number = library::page(&mut self.lent, r, place, &mut page);
+        let at = |what: Difference| format!("page {r} {place}: {what}");
+        if number != wanted.err().unwrap_or(0) {
+            return Err(at(format!("number {number}, wanted {wanted:?}")));
+        }
+        counts.call(Call::Page, number, 0);
+        let after = answer_after(room, wanted.as_ref().ok());
+        self.compare(Some((&page, after))).map_err(at)?;
+        Ok(number)
+    }
+
+    /// The second implementation reads its own bytes as the same hall.
+    pub fn read_back(&self) -> Result<(), Difference> {
+        if stored::read(&self.wanted[..self.lent.length()]) == self.hall {
+            Ok(())
+        } else {
+            Err("the second implementation reads another hall".to_string())
+        }
+    }
+}

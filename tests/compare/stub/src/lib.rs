@@ -1,0 +1,258 @@
+//! The three calls of `include/hall.h` over the second implementation, right or
+//! with one of the mistakes below, which HALL_FAULT names.
+
+use reference::actions::judge_kind;
+use reference::calls::{self, ANSWER_LENGTH};
+use reference::hall::{at_mark, Message};
+use reference::stored::{self, LENGTH};
+use reference::Hall;
+use std::slice::{from_raw_parts, from_raw_parts_mut};
+use std::sync::OnceLock;
+
+/// The mistake that is asked for.
+fn fault() -> Option<&'static str> {
+    static NAMED: OnceLock<Option<String>> = OnceLock::new();
+    let named = NAMED.get_or_init(|| std::env::var("HALL_FAULT").ok());
+    named.as_deref()
+}
+
+fn faulty(name: &str) -> bool {
+    fault() == Some(name)
+}
+
+/// # Safety
+/// As in `include/hall.h`.
+#[no_mangle]
+pub unsafe extern "C" fn hall_open(hall: *mut u8, hall_len: usize, n: u32, founders: u32) -> u32 {
+    let hall = from_raw_parts_mut(hall, hall_len);
+    if faulty("18 before 16") && hall.len() < LENGTH {
+        return 18;
+    }
+    if faulty("founders looked at as a byte") {
+        return calls::open(hall, n, founders & 255);
+    }
+    let number = calls::open(hall, n, founders);
+    if faulty("the rest of the slice cleared") && number == 0 {
+        hall[LENGTH..].fill(0);
+    }
+    number
+}
+
+/// # Safety
+/// As in `include/hall.h`.
+#[no_mangle]
+pub unsafe extern "C" fn hall_step(
+    hall: *mut u8,
+    hall_len: usize,
+    k: u32,
+    r: u32,
+    a: u32,
+    b: u32,
+    answer: *mut u8,
+    answer_len: usize,
+) -> u32 {
+    let hall = from_raw_parts_mut(hall, hall_len);
+    let answer = from_raw_parts_mut(answer, answer_len);
+    let action = [k, r, a, b];
+    if fault().is_none() {
+        return calls::step(hall, action, answer);
+    }
+    if faulty("31 before 11") && stored::read(hall).is_none() {
+        return 31;
+    }
+    if faulty("18 first") && judge_kind(k).is_ok() && answer.len() < ANSWER_LENGTH {
+        return 18;
+    }
+    if let Some(number) = wrong_check(hall).filter(|_| judge_kind(k).is_ok()) {
+        return number;
+    }
+    let before = stored::read(hall);
+    let number = match before.clone().filter(|_| answer.len() >= ANSWER_LENGTH) {
+        Some(old) => wrong_step(&old, action, hall, answer),
+        None => None,
+    };
+    let number = number.unwrap_or_else(|| calls::step(hall, action, answer));
+    if faulty("a refused answer cleared") && number != 0 {
+        answer.fill(0);
+    }
+    if faulty("a byte past the answer") && number == 0 && answer.len() > ANSWER_LENGTH {
+        answer[ANSWER_LENGTH] = 0;
+    }
+    if faulty("a byte past the hall") && number == 0 && hall.len() > LENGTH {
+        hall[LENGTH] ^= 1;
+    }
+    if faulty("a spare word used") && number == 0 {
+        answer[40] = 1;
+    }
+    if faulty("an entry's source as sender") && number == 0 && answer[0] == 1 {
+        answer[16] = answer[4];
+    }
+    number
+}
+
+/// # Safety
+/// As in `include/hall.h`.
+#[no_mangle]
+pub unsafe extern "C" fn hall_page(
+    hall: *const u8,
+    hall_len: usize,
+    r: u32,
+    place: u32,
+    page: *mut u8,
+    page_len: usize,
+) -> u32 {
+    let hall = from_raw_parts(hall, hall_len);
+    let page = from_raw_parts_mut(page, page_len);
+    if fault().is_none() {
+        return calls::page(hall, r, place, page);
+    }
+    if let Some(number) = wrong_check(hall) {
+        return number;
+    }
+    let number = calls::page(hall, r, place, page);
+    if faulty("the page says primary without a view") && number == 0 && page[..4] == [0; 4] {
+        page[12] = 1;
+    }
+    number
+}
+
+/// 31 for bytes that are a hall: rules that 01 does not have.
+fn too_strict(hall: &Hall) -> bool {
+    let views = &hall.views;
+    let of_view = |number: u32| views.iter().find(|view| view.number == number);
+    if faulty("a formed view asked for") {
+        return views.is_empty();
+    }
+    if faulty("marks outside a view asked to be 1") {
+        return views.iter().any(|view| {
+            let outside = (1..=hall.n).filter(|&k| !view.has(k));
+            let mut marks = outside.map(|k| (view.seat(k).receive, view.seat(k).safe));
+            marks.any(|marks| marks != (1, 1))
+        });
+    }
+    if faulty("safe sources asked to have sent") {
+        return hall.recorders.iter().any(|recorder| {
+            of_view(recorder.current).is_some_and(|view| {
+                let safe = (1..=hall.n).filter(|k| recorder.safe_sources >> (k - 1) & 1 != 0);
+                let mut seats = safe.map(|k| view.seat(k));
+                seats.any(|seat| seat.summary.is_none())
+            })
+        });
+    }
+    false
+}
+
+/// Bytes made right that 01 refuses: a byte not looked at.
+fn mended(bytes: &[u8]) -> Option<Vec<u8>> {
+    let mut mended = bytes.to_vec();
+    if faulty("the last place of a buffer not looked at") && bytes[803 + 6] < 64 {
+        mended[803 + 6 + 64] = 0;
+    } else if faulty("a receive mark of 74 taken") && bytes[3_091 + 66] == 73 {
+        mended[3_091 + 66] = 72;
+    } else if faulty("the last queue not looked at") {
+        mended[LENGTH - 145..LENGTH].fill(0);
+    } else if faulty("a label's sequence without a view taken") {
+        for entry in mended[163..803].chunks_exact_mut(10) {
+            if entry[5..9] == [0; 4] {
+                entry[9] = 0;
+            }
+        }
+    } else {
+        return None;
+    }
+    Some(mended)
+}
+
+/// A wrong answer of the check: 31 for a hall, or 0 for what is none.
+fn wrong_check(bytes: &[u8]) -> Option<u32> {
+    if bytes.len() < LENGTH {
+        return faulty("a short hall is 18").then_some(18);
+    }
+    match stored::read(bytes) {
+        Some(hall) => too_strict(&hall).then_some(31),
+        None => mended(bytes)
+            .and_then(|mended| stored::read(&mended))
+            .map(|_| 0),
+    }
+}
+
+/// A step done wrong; nothing for a mistake that is not asked for or has no
+/// effect here.
+fn wrong_step(
+    old: &Hall,
+    [k, r, a, b]: [u32; 4],
+    bytes: &mut [u8],
+    answer: &mut [u8],
+) -> Option<u32> {
+    let mut hall = old.clone();
+    if !(1..=hall.n).contains(&r) {
+        return None;
+    }
+    let recorder = hall.recorder(r).clone();
+    let current = hall.current_index(r).map(|index| old.views[index].clone());
+    let queued = |mark: fn(&reference::Seat) -> u32| {
+        let view = current.as_ref()?;
+        at_mark(&view.queue, mark(view.seat(r)))
+    };
+    if k == 10 && faulty("confirmed what is not safe") {
+        hall.recorder_mut(r).safe_labels = u64::MAX;
+    } else if k == 6 && faulty("safe labels kept") {
+        let number = calls::step(bytes, [k, r, a, b], answer);
+        if number == 0 {
+            let mut after = stored::read(bytes)?;
+            after.recorder_mut(r).safe_labels = recorder.safe_labels;
+            stored::write(&after, bytes);
+        }
+        return Some(number);
+    } else if k == 8 && faulty("a full order cut") && recorder.order.len() == 64 {
+        hall.recorder_mut(r).order.pop();
+    } else if k == 9 && faulty("R itself not asked") {
+        let index = hall.current_index(r)?;
+        hall.views[index].seat_mut(r).receive = 73;
+    } else if k == 9 && faulty("a summary shown as it is now") {
+        let queued = queued(|seat| seat.safe)?;
+        if queued.message != Message::Summary {
+            return None;
+        }
+        let source = hall.recorder(queued.source).summary();
+        let index = hall.current_index(r)?;
+        hall.views[index].seat_mut(queued.source).summary = Some(source);
+    } else if k == 8 && faulty("a summary heard before not looked at") {
+        let queued = queued(|seat| seat.receive)?;
+        let heard = recorder.heard >> (queued.source - 1) & 1 != 0;
+        if queued.message != Message::Summary || !heard {
+            return None;
+        }
+        hall.recorder_mut(r).phase = reference::Phase::Normal;
+    } else {
+        return None;
+    }
+    let kept = hall.clone();
+    let words = match hall.step(k, r, a, b).plain() {
+        Ok(words) => words,
+        Err(number) => return Some(number),
+    };
+    // What was changed only to mislead the step is put back.
+    let after = hall.recorder_mut(r);
+    if after.safe_labels == kept.recorder(r).safe_labels {
+        after.safe_labels = recorder.safe_labels;
+    }
+    if after.phase == kept.recorder(r).phase {
+        after.phase = recorder.phase;
+    }
+    if let Some(index) = old.current_index(r) {
+        for source in 1..=hall.n {
+            let summary = old.views[index].seat(source).summary.clone();
+            hall.views[index].seat_mut(source).summary = summary;
+        }
+        if k == 9 {
+            let receive = old.views[index].seat(r).receive;
+            hall.views[index].seat_mut(r).receive = receive;
+        }
+    }
+    for (bytes, word) in answer.chunks_exact_mut(4).zip(words) {
+        bytes.copy_from_slice(&word.to_le_bytes());
+    }
+    stored::write(&hall, bytes);
+    Some(0)
+}

@@ -1,0 +1,149 @@
+//! The three calls on lent bytes, as a C program makes them: a number, which is
+//! 0 or a refusal, and the answer as words in a lent slice. A refused call
+//! leaves both slices as they are.
+
+use crate::actions::{judge_kind, Answer};
+use crate::hall::{open as open_hall, Hall};
+use crate::page::Page;
+use crate::refusal;
+use crate::stored;
+
+/// Bytes of an answer or a page.
+pub const ANSWER_LENGTH: usize = 64;
+/// Words of an answer or a page, of 32 bits, little-endian.
+pub const WORDS: usize = ANSWER_LENGTH / 4;
+
+/// The first words, followed by zeros.
+fn words<const USED: usize>(used: [u32; USED]) -> [u32; WORDS] {
+    let mut words = [0; WORDS];
+    words[..USED].copy_from_slice(&used);
+    words
+}
+
+impl Answer {
+    /// The number of the answer, and its words if the number is 0.
+    pub fn plain(self) -> Result<[u32; WORDS], u32> {
+        match self {
+            Answer::Done => Ok(words([0])),
+            Answer::Entry {
+                source,
+                view,
+                seq,
+                sender,
+                value,
+            } => Ok(words([1, source, view, seq, sender, value])),
+            Answer::Summary {
+                source,
+                known,
+                order,
+                confirm,
+                high,
+            } => Ok(words([2, source, known, order, confirm, high])),
+            Answer::From { sender, value } => Ok(words([3, sender, value])),
+            Answer::Refused(number) => Err(number),
+        }
+    }
+}
+
+impl Page {
+    pub fn words(&self) -> [u32; WORDS] {
+        words([
+            self.view,
+            self.members,
+            self.phase,
+            self.primary,
+            self.high,
+            self.order_length,
+            self.buffer_length,
+            self.confirm,
+            self.report,
+            self.label_view,
+            self.label_seq,
+            self.label_sender,
+            self.value,
+        ])
+    }
+}
+
+/// Whether an answer or a page fits into a slice.
+fn has_room(slice: &[u8]) -> bool {
+    slice.len() >= ANSWER_LENGTH
+}
+
+fn put_words(slice: &mut [u8], words: [u32; WORDS]) {
+    for (bytes, word) in slice.chunks_exact_mut(4).zip(words) {
+        bytes.copy_from_slice(&word.to_le_bytes());
+    }
+}
+
+/// 0 for a call that was performed, or its refusal.
+fn number(result: Result<(), u32>) -> u32 {
+    result.err().unwrap_or(0)
+}
+
+fn try_open(bytes: &mut [u8], n: u32, founders: u32) -> Result<(), u32> {
+    let hall = open_hall(n, founders)?;
+    if bytes.len() < stored::LENGTH {
+        return Err(refusal::SHORT_SLICE);
+    }
+    stored::write(&hall, bytes);
+    Ok(())
+}
+
+/// Opens a hall in a slice; 16 before 18.
+pub fn open(bytes: &mut [u8], n: u32, founders: u32) -> u32 {
+    number(try_open(bytes, n, founders))
+}
+
+/// What a step does with a hall, or with bytes that are none, given whether
+/// there is room for the answer: the answer's words, or the refusal, which
+/// leaves the hall as it is.
+pub fn step_hall(
+    hall: Option<&mut Hall>,
+    [k, r, a, b]: [u32; 4],
+    room: bool,
+) -> Result<[u32; WORDS], u32> {
+    judge_kind(k)?;
+    let hall = hall.ok_or(refusal::STORED_FORM)?;
+    if room {
+        return hall.step(k, r, a, b).plain();
+    }
+    hall.clone().step(k, r, a, b).plain()?;
+    Err(refusal::SHORT_SLICE)
+}
+
+/// What a page gives of a hall, or of bytes that are none, given whether there
+/// is room for it.
+pub fn page_of(hall: Option<&Hall>, r: u32, place: u32, room: bool) -> Result<[u32; WORDS], u32> {
+    let page = hall.ok_or(refusal::STORED_FORM)?.page(r, place)?;
+    if room {
+        Ok(page.words())
+    } else {
+        Err(refusal::SHORT_SLICE)
+    }
+}
+
+fn try_step(bytes: &mut [u8], action: [u32; 4], answer: &mut [u8]) -> Result<(), u32> {
+    judge_kind(action[0])?;
+    let mut hall = stored::read(bytes);
+    let words = step_hall(hall.as_mut(), action, has_room(answer))?;
+    put_words(answer, words);
+    stored::write(&hall.expect("a step was taken"), bytes);
+    Ok(())
+}
+
+/// Performs one action on the hall in a slice; 11, 31, then the others, 18 last.
+pub fn step(bytes: &mut [u8], action: [u32; 4], answer: &mut [u8]) -> u32 {
+    number(try_step(bytes, action, answer))
+}
+
+fn try_page(bytes: &[u8], r: u32, place: u32, page: &mut [u8]) -> Result<(), u32> {
+    let hall = stored::read(bytes);
+    put_words(page, page_of(hall.as_ref(), r, place, has_room(page))?);
+    Ok(())
+}
+
+/// The page of a recorder of the hall in a slice; 31, 12, 38, 18.
+pub fn page(bytes: &[u8], r: u32, place: u32, page: &mut [u8]) -> u32 {
+    number(try_page(bytes, r, place, page))
+}
