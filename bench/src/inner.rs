@@ -1,18 +1,11 @@
-//! The check alone and the step without a check, which only the library of the
-//! crate bench_api exports.
+//! The check alone, and steps on bytes that are checked once, which only the
+//! library of the crate bench_api exports.
 
 #[cfg(feature = "inner")]
 extern "C" {
     fn hall_check(hall: *const u8, hall_len: usize) -> u32;
 
-    fn hall_inner_step(
-        hall: *mut u8,
-        hall_len: usize,
-        k: u32,
-        r: u32,
-        a: u32,
-        b: u32,
-    ) -> u32;
+    fn hall_steps(hall: *mut u8, hall_len: usize, actions: *const u32, words: usize) -> u32;
 }
 
 /// Whether the two calls are linked.
@@ -25,13 +18,13 @@ pub fn check(hall: &[u8]) -> u32 {
     unsafe { hall_check(hall.as_ptr(), hall.len()) }
 }
 
-/// A step on bytes that hold a hall, which is not checked.
+/// All actions one after another: 0, or 31 for bytes that are no hall.
 #[cfg(feature = "inner")]
-pub fn step(hall: &mut [u8], [k, r, a, b]: [u32; 4]) -> u32 {
+pub fn steps(hall: &mut [u8], actions: &[[u32; 4]]) -> u32 {
     let length = hall.len();
-    // Safety: the pointer is that of the slice, which holds a hall's form: it
-    // was opened, and each step keeps it so.
-    unsafe { hall_inner_step(hall.as_mut_ptr(), length, k, r, a, b) }
+    let words = actions.as_flattened();
+    // Safety: the pointers are those of two slices.
+    unsafe { hall_steps(hall.as_mut_ptr(), length, words.as_ptr(), words.len()) }
 }
 
 #[cfg(not(feature = "inner"))]
@@ -40,6 +33,6 @@ pub fn check(_: &[u8]) -> u32 {
 }
 
 #[cfg(not(feature = "inner"))]
-pub fn step(_: &mut [u8], _: [u32; 4]) -> u32 {
+pub fn steps(_: &mut [u8], _: &[[u32; 4]]) -> u32 {
     unreachable!("not linked")
 }

@@ -64,12 +64,10 @@ fn library_steps(run: &Run) -> Vec<u8> {
     hall.area().to_vec()
 }
 
-/// The library's step without a check, over a whole run.
+/// The library's steps on bytes that are checked once, over a whole run.
 fn library_inner_steps(run: &Run) -> Vec<u8> {
     let mut hall = opened(run).area().to_vec();
-    for &action in &run.actions {
-        black_box(inner::step(&mut hall, action));
-    }
+    black_box(inner::steps(&mut hall, &run.actions));
     hall
 }
 

@@ -1,12 +1,12 @@
-// For measurements alone (bench/): the check of a slice, and a step on a slice that was checked. The second one's
-// `requires` is what bench/ sees to by calling the first; no one else calls it.
+// For measurements (bench/): the check of a slice alone, and steps one after another on a slice that is checked once.
 ghost use mathlib.Core.Path.{_≡_};
 ghost use mathlib.Core.Bool.{true};
-ghost use Rattle.model.specs.Answers as model;
+ghost use Prim.Native.Nat.{_*_, _≤_};
+ghost use lib.ListN.{length, take};
 ghost use Rattle.store.specs.StoredForm.{isStored};
-ghost use Rattle.engine.specs.Calls.{stepOn};
-ghost use Rattle.step.specs.Steps.{wordsOf, bytesNumber};
-use answer::plain;
+ghost use Rattle.engine.specs.Calls.{runOn};
+ghost use Rattle.runfile.specs.Answers.{actionsOf};
+ghost use Rattle.step.specs.Steps.{bytesNumber};
 use step::bytes_refusal;
 use step::step_hall;
 
@@ -18,13 +18,35 @@ pub extern "C" fn hall_check(hall: &[u8]) -> u32
     bytes_refusal(hall)
 }
 
-// A step without the check: its number.
-#[no_mangle]
-pub extern "C" fn hall_inner_step(hall: &mut [u8], k: u32, r: u32, a: u32, b: u32) -> u32
-    requires { ⌜ isStored (now hall) ≡ true ⌝ }
-    ensures number { λ n. ⌜ n ≡ model.plain (stepOn (now (hall .entry)) (wordsOf k r a b) .answer) .number ⌝ }
-    ensures bytes { λ n. ⌜ now (hall .exit) ≡ stepOn (now (hall .entry)) (wordsOf k r a b) .bytes ⌝ }
+// The first c actions of a slice, four words each, on bytes that hold a hall.
+fn run(hall: &mut [u8], actions: &[u32], c: usize)
+    requires { ⌜ (isStored (now hall) ≡ true) × (4 * c ≤ length (now actions)) ⌝ }
+    ensures { λ _. ⌜ now (hall .exit) ≡ runOn (now (hall .entry)) (take c (actionsOf (now (actions .entry)))) ⌝ }
 {
-    let x = plain(step_hall(hall, k, r, a, b));
-    x.number
+    let mut i = 0;
+    while i < c {
+        let j = 4 * i;
+        step_hall(
+            hall,
+            actions[j],
+            actions[j + 1],
+            actions[j + 2],
+            actions[j + 3],
+        );
+        i += 1;
+    }
+}
+
+// The actions of a slice, four words each, one after another: 31, or 0. A shorter rest is no part of the list.
+#[no_mangle]
+pub extern "C" fn hall_steps(hall: &mut [u8], actions: &[u32]) -> u32
+    ensures number { λ n. ⌜ n ≡ bytesNumber (now (hall .entry)) ⌝ }
+    ensures bytes { λ n. ⌜ now (hall .exit) ≡ runOn (now (hall .entry)) (actionsOf (now (actions .entry))) ⌝ }
+{
+    let why = bytes_refusal(hall);
+    if why != 0 {
+        return why;
+    }
+    run(hall, actions, actions.len() / 4);
+    0
 }
