@@ -4,7 +4,7 @@ ghost use mathlib.Core.Bool.{true};
 ghost use Prim.Native.Nat.{_*_, _≤_};
 ghost use lib.ListN.{length, take};
 ghost use Rattle.store.specs.StoredForm.{isStored};
-ghost use Rattle.engine.specs.Calls.{runOn};
+ghost use Rattle.calls.specs.Calls.{runOn};
 ghost use Rattle.runfile.specs.Answers.{actionsOf};
 ghost use Rattle.step.specs.Steps.{bytesNumber};
 use step::bytes_refusal;

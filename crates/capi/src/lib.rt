@@ -1,11 +1,10 @@
 // The C interface (include/hall.h): open, step and page on numbers and byte slices. Each function returns 0 or the number
 // of the refusal. A step's answer and a page are words in a lent slice.
 ghost use mathlib.Core.Path.{_≡_};
-ghost use Rattle.engine.specs.Calls.{openOn};
-ghost use Rattle.opening.specs.Openings.{openingOf};
-ghost use Rattle.step.specs.Steps.{wordsOf};
-ghost use Rattle.marshal.specs.Lent.{stepLent, pageLent};
-ghost use Rattle.marshal.specs.Refused.{Leaves};
+ghost use Rattle.calls.specs.Calls.{openOn};
+ghost use Rattle.model.specs.Opening.{openingOf};
+ghost use Rattle.model.specs.Call.{wordsOf};
+ghost use Rattle.calls.specs.Lent.{stepLent, pageLent, Leaves};
 use marshal::page_into;
 use marshal::step_into;
 use opening::open;

@@ -12,7 +12,8 @@ use Rattle.codec.specs.Bytes.{zeros}
 use Rattle.codec.specs.Form.{Form, Lawful, mapped}
 use Rattle.codec.specs.Number.{digits, number, byte, flag}
 use Rattle.codec.specs.Pair.{given}
-use Rattle.codec.specs.Cells.{All, suc-cells, encodeAll, encodeAll-nil, encodeAll-cons, encodeAll-append, cells}
+use Rattle.base.specs.Lists.{Each}
+use Rattle.codec.specs.Cells.{suc-cells, encodeAll, encodeAll-nil, encodeAll-cons, encodeAll-append, cells}
 use Rattle.codec.specs.Bounded.{bounded, optional}
 
 -- a is stored as zero bytes alone
@@ -49,7 +50,7 @@ unfolding given
 blank-given {m} {n} H G a b e f = ap₂ _++_ e f ∙ replicate-append-replicate m n 0
 
 module _ {A : Type 0} {k : ℕ} (F : Form A k) where
-  blank-all : (xs : List A) → All (Blank F) xs → encodeAll F xs ≡ zeros (length xs * k)
+  blank-all : (xs : List A) → Each (Blank F) xs → encodeAll F xs ≡ zeros (length xs * k)
   blank-all [] a = encodeAll-nil F ∙ ap zeros (sym (zero-mul k))
   blank-all (x ∷ xs) a =
       encodeAll-cons F x xs
@@ -57,7 +58,7 @@ module _ {A : Type 0} {k : ℕ} (F : Form A k) where
       ∙ replicate-append-replicate k (length xs * k) 0
       ∙ ap zeros (sym (suc-cells (length xs) k))
 
-  pub blank-cells : (n : ℕ) (xs : List A) → length xs ≤ n → All (Blank F) xs → Blank (cells F (length xs) n) xs
+  pub blank-cells : (n : ℕ) (xs : List A) → length xs ≤ n → Each (Blank F) xs → Blank (cells F (length xs) n) xs
   unfolding cells
   blank-cells n xs h a =
       let e : length xs + (n - length xs) ≡ n = omega arith in

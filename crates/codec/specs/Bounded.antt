@@ -14,31 +14,32 @@ use Rattle.codec.specs.Bytes.{zeros, allZero, sets-between}
 use Rattle.codec.specs.Form.{Form, Lawful, Inverse, mapped, mapped-lawful}
 use Rattle.codec.specs.Number.{number, byte, byte-lawful, digits, value, between}
 use Rattle.codec.specs.Pair.{given, given-lawful}
-use Rattle.codec.specs.Cells.{All, suc-cells, All-append, All-take, All-drop, All-set, encodeAll, encodeAll-append, encodeAll-cons, encodeAll-nil, validAll, decodeAll, cells, cells-lawful, block-encodeAll}
+use Rattle.base.specs.Lists.{Each}
+use Rattle.codec.specs.Cells.{suc-cells, Each-append, Each-take, Each-drop, Each-set, encodeAll, encodeAll-append, encodeAll-cons, encodeAll-nil, validAll, decodeAll, cells, cells-lawful, block-encodeAll}
 use Rattle.codec.specs.Piece.{View, Piece, head, tail, cell, inner, mapped-view, mapped-piece, restated, whatever}
 
 -- at most cap elements, each with P. These are the bounds of a list of any capacity.
 abbrev pub Within : {A : Type 0} → (A → Type 0) → ℕ → List A → Type 0
-Within P cap xs = (length xs ≤ cap) × All P xs
+Within P cap xs = (length xs ≤ cap) × Each P xs
 
 module _ {A : Type 0} (P : A → Type 0) (cap : ℕ) where
   pub within-nil : Within P cap []
   within-nil = (omega arith, tt)
 
-  pub within-push : (xs : List A) (x : A) → length xs < cap → All P xs → P x → Within P cap (xs ++ (x ∷ []))
-  within-push xs x h a p = (simp length-append (omega arith), All-append P xs (x ∷ []) a (p, tt))
+  pub within-push : (xs : List A) (x : A) → length xs < cap → Each P xs → P x → Within P cap (xs ++ (x ∷ []))
+  within-push xs x h a p = (simp length-append (omega arith), Each-append P xs (x ∷ []) a (p, tt))
 
-  pub within-append : (xs ys : List A) → length xs + length ys ≤ cap → All P xs → All P ys → Within P cap (xs ++ ys)
-  within-append xs ys h a b = (simp length-append h, All-append P xs ys a b)
+  pub within-append : (xs ys : List A) → length xs + length ys ≤ cap → Each P xs → Each P ys → Within P cap (xs ++ ys)
+  within-append xs ys h a b = (simp length-append h, Each-append P xs ys a b)
 
   pub within-take : (i : ℕ) (xs : List A) → Within P cap xs → Within P cap (take i xs)
-  within-take i xs w = (simp length-take (omega (arith, w .0)), All-take P i xs (w .1))
+  within-take i xs w = (simp length-take (omega (arith, w .0)), Each-take P i xs (w .1))
 
   pub within-drop : (i : ℕ) (xs : List A) → Within P cap xs → Within P cap (drop i xs)
-  within-drop i xs w = (simp length-drop (omega (arith, w .0)), All-drop P i xs (w .1))
+  within-drop i xs w = (simp length-drop (omega (arith, w .0)), Each-drop P i xs (w .1))
 
   pub within-set : (xs : List A) (i : ℕ) (x : A) → Within P cap xs → P x → Within P cap (set xs i x)
-  within-set xs i x w p = (simp length-set (w .0), All-set P xs i x (w .1) p)
+  within-set xs i x w p = (simp length-set (w .0), Each-set P xs i x (w .1) p)
 
 module _ {A : Type 0} {k : ℕ} (F : Form A k) (cap : ℕ) where
   -- the count, and the cells that it says are in use

@@ -13,7 +13,8 @@ use borrow.Author.Tests.{leb-true, le-leb, lt-leb}
 use Rattle.codec.specs.declared.ByteList.{ByteList}
 use Rattle.codec.specs.Bytes.{zeros, part, part-cons, part-rest, drop-part, allZero, sets-append}
 use Rattle.codec.specs.Number.{number, byte, between, digits, digits-byte, value}
-use Rattle.codec.specs.Cells.{All, encodeAll, decodeAll, validAll}
+use Rattle.base.specs.Lists.{Each}
+use Rattle.codec.specs.Cells.{encodeAll, decodeAll, validAll}
 use Rattle.codec.specs.Bounded.{Within, bounded, bounded-encode, bounded-decode, bounded-valid}
 
 -- the bytes that a `ByteList` holds
@@ -74,7 +75,7 @@ module _ (lo hi i t : ℕ) (b : List ℕ) where
 
 -- what the code writes, reads and tests is the form of a bounded list of bytes
 module _ (lo hi : ℕ) where
-  encode-bytes : hi < 256 → (xs : List ℕ) → All (byte lo hi .ok) xs → encodeAll (byte lo hi) xs ≡ xs
+  encode-bytes : hi < 256 → (xs : List ℕ) → Each (byte lo hi .ok) xs → encodeAll (byte lo hi) xs ≡ xs
   unfolding number encodeAll
   encode-bytes h [] a = refl
   encode-bytes h (x ∷ xs) a =

@@ -6,6 +6,7 @@ use mathlib.Core.Path.{_≡_, refl, sym, ap, ap₂, subst, _∙_}
 use mathlib.Core.Bool.{Bool, true, _&&_, and-eq-true-iff}
 use mathlib.Core.List.{List, [], _∷_, _++_, append-assoc}
 use lib.ListN.{length, getD, take, drop, set, take-append-drop, length-drop}
+use Rattle.base.specs.Lists.{Each}
 use lib.Seq.{take-at, drop-at, drop-drop, take-add}
 use Rattle.codec.specs.Bytes.{Block, zeros, part, allZero, allZero-replicate, allZero-eq, block-append, block-take, block-drop, block-zeros}
 use Rattle.codec.specs.Form.{Form, Lawful}
@@ -13,35 +14,30 @@ use Rattle.codec.specs.Form.{Form, Lawful}
 pub suc-cells : (m k : ℕ) → suc m * k ≡ k + m * k
 suc-cells m k = omega (arith, suc-mul m k)
 
--- P holds of every element
-abbrev pub All : {A : Type 0} → (A → Type 0) → List A → Type 0
-All P [] = Unit {0}
-All P (x ∷ xs) = P x × All P xs
-
 module _ {A : Type 0} (P : A → Type 0) where
-  pub All-getD : (xs : List A) (i : ℕ) (d : A) → i < length xs → All P xs → P (getD xs i d)
-  All-getD [] i d h a = absurd (not-suc-le-zero h)
-  All-getD (x ∷ xs) zero d h a = a .0
-  All-getD (x ∷ xs) (suc i) d h a = All-getD xs i d (le-of-suc-le-suc h) (a .1)
+  pub Each-getD : (xs : List A) (i : ℕ) (d : A) → i < length xs → Each P xs → P (getD xs i d)
+  Each-getD [] i d h a = absurd (not-suc-le-zero h)
+  Each-getD (x ∷ xs) zero d h a = a .0
+  Each-getD (x ∷ xs) (suc i) d h a = Each-getD xs i d (le-of-suc-le-suc h) (a .1)
 
-  pub All-set : (xs : List A) (i : ℕ) (x : A) → All P xs → P x → All P (set xs i x)
-  All-set [] i x a p = tt
-  All-set (y ∷ xs) zero x a p = (p, a .1)
-  All-set (y ∷ xs) (suc i) x a p = (a .0, All-set xs i x (a .1) p)
+  pub Each-set : (xs : List A) (i : ℕ) (x : A) → Each P xs → P x → Each P (set xs i x)
+  Each-set [] i x a p = tt
+  Each-set (y ∷ xs) zero x a p = (p, a .1)
+  Each-set (y ∷ xs) (suc i) x a p = (a .0, Each-set xs i x (a .1) p)
 
-  pub All-append : (xs ys : List A) → All P xs → All P ys → All P (xs ++ ys)
-  All-append [] ys a b = b
-  All-append (x ∷ xs) ys a b = (a .0, All-append xs ys (a .1) b)
+  pub Each-append : (xs ys : List A) → Each P xs → Each P ys → Each P (xs ++ ys)
+  Each-append [] ys a b = b
+  Each-append (x ∷ xs) ys a b = (a .0, Each-append xs ys (a .1) b)
 
-  pub All-take : (i : ℕ) (xs : List A) → All P xs → All P (take i xs)
-  All-take zero xs a = tt
-  All-take (suc i) [] a = tt
-  All-take (suc i) (x ∷ xs) a = (a .0, All-take i xs (a .1))
+  pub Each-take : (i : ℕ) (xs : List A) → Each P xs → Each P (take i xs)
+  Each-take zero xs a = tt
+  Each-take (suc i) [] a = tt
+  Each-take (suc i) (x ∷ xs) a = (a .0, Each-take i xs (a .1))
 
-  pub All-drop : (i : ℕ) (xs : List A) → All P xs → All P (drop i xs)
-  All-drop zero xs a = a
-  All-drop (suc i) [] a = tt
-  All-drop (suc i) (x ∷ xs) a = All-drop i xs (a .1)
+  pub Each-drop : (i : ℕ) (xs : List A) → Each P xs → Each P (drop i xs)
+  Each-drop zero xs a = a
+  Each-drop (suc i) [] a = tt
+  Each-drop (suc i) (x ∷ xs) a = Each-drop i xs (a .1)
 
 module _ {A : Type 0} {k : ℕ} (F : Form A k) where
   -- the bytes of each value, in turn
@@ -90,11 +86,11 @@ module _ {A : Type 0} {k : ℕ} (F : Form A k) where
         encode = λ xs. encodeAll xs ++ zeros ((n - m) * k);
         decode = decodeAll m;
         valid = λ b. validAll m b && allZero (drop (m * k) b);
-        ok = λ xs. (length xs ≡ m) × All (F .ok) xs;
+        ok = λ xs. (length xs ≡ m) × Each (F .ok) xs;
       }
 
   module _ (L : Lawful F) where
-    pub block-encodeAll : (xs : List A) → All (F .ok) xs → Block (length xs * k) (encodeAll xs)
+    pub block-encodeAll : (xs : List A) → Each (F .ok) xs → Block (length xs * k) (encodeAll xs)
     unfolding encodeAll
     block-encodeAll [] h = subst (λ (z : ℕ). Block z []) (sym (zero-mul k)) (block-zeros 0)
     block-encodeAll (x ∷ xs) h =
@@ -107,14 +103,14 @@ module _ {A : Type 0} {k : ℕ} (F : Form A k) where
     rear : (x : A) (r : List ℕ) → F .ok x → drop k (F .encode x ++ r) ≡ r
     rear x r h = drop-at (F .encode x) r k (L .stored x h .len)
 
-    pub decodeAll-encodeAll : (xs : List A) (r : List ℕ) → All (F .ok) xs → decodeAll (length xs) (encodeAll xs ++ r) ≡ xs
+    pub decodeAll-encodeAll : (xs : List A) (r : List ℕ) → Each (F .ok) xs → decodeAll (length xs) (encodeAll xs ++ r) ≡ xs
     unfolding encodeAll decodeAll
     decodeAll-encodeAll [] r h = refl
     decodeAll-encodeAll (x ∷ xs) r h =
         rw (append-assoc, front x (encodeAll xs ++ r) (h .0), rear x (encodeAll xs ++ r) (h .0), L .back x (h .0))
         (ap (λ (z : List A). x ∷ z) (decodeAll-encodeAll xs r (h .1)))
 
-    pub validAll-encodeAll : (xs : List A) (r : List ℕ) → All (F .ok) xs → validAll (length xs) (encodeAll xs ++ r) ≡ true
+    pub validAll-encodeAll : (xs : List A) (r : List ℕ) → Each (F .ok) xs → validAll (length xs) (encodeAll xs ++ r) ≡ true
     unfolding encodeAll validAll
     validAll-encodeAll [] r h = refl
     validAll-encodeAll (x ∷ xs) r h =
@@ -128,7 +124,7 @@ module _ {A : Type 0} {k : ℕ} (F : Form A k) where
 
     -- the first m cells of b, valid, and any bytes after them
     pub validAll-sound : (m r : ℕ) (b : List ℕ) → Block (m * k + r) b → validAll m b ≡ true
-        → All (F .ok) (decodeAll m b) × (encodeAll (decodeAll m b) ≡ take (m * k) b)
+        → Each (F .ok) (decodeAll m b) × (encodeAll (decodeAll m b) ≡ take (m * k) b)
     unfolding validAll decodeAll encodeAll
     validAll-sound zero r b s v = (tt, rw zero-mul)
     validAll-sound (suc m) r b s v =
@@ -164,11 +160,11 @@ module _ {A : Type 0} {k : ℕ} (F : Form A k) where
             let e : m + (n - m) ≡ n = omega arith in
             sym (add-mul m (n - m) k) ∙ ap (λ (z : ℕ). z * k) e
 
-        first : (xs : List A) → (length xs ≡ m) × All (F .ok) xs → Block (m * k) (encodeAll xs)
+        first : (xs : List A) → (length xs ≡ m) × Each (F .ok) xs → Block (m * k) (encodeAll xs)
         first xs o = subst (λ (z : ℕ). Block (z * k) (encodeAll xs)) (o .0) (block-encodeAll xs (o .1))
 
         parts : (b : List ℕ) → Block (n * k) b → validAll m b && allZero (drop (m * k) b) ≡ true
-            → (All (F .ok) (decodeAll m b) × (encodeAll (decodeAll m b) ≡ take (m * k) b)) × (allZero (drop (m * k) b) ≡ true)
+            → (Each (F .ok) (decodeAll m b) × (encodeAll (decodeAll m b) ≡ take (m * k) b)) × (allZero (drop (m * k) b) ≡ true)
         parts b s v =
             let t = and-eq-true-iff (validAll m b) (allZero (drop (m * k) b)) .0 v in
             (validAll-sound m ((n - m) * k) b (subst (λ (z : ℕ). Block z b) (sym whole) s) (t .0), t .1)

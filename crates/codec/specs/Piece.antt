@@ -11,7 +11,7 @@ use lib.Seq.{sets, split-at, set-split, length-take-le}
 use Rattle.codec.specs.Bytes.{Block, zeros, part, part-between, sets-between}
 use Rattle.codec.specs.Form.{Form, Lawful, Inverse, mapped, guarded}
 use Rattle.codec.specs.Pair.{given, pair}
-use Rattle.codec.specs.Cells.{All-getD, All-set, All-take, encodeAll, cells, block-encodeAll, encodeAll-append, encodeAll-cons}
+use Rattle.codec.specs.Cells.{Each-getD, Each-set, Each-take, encodeAll, cells, block-encodeAll, encodeAll-append, encodeAll-cons}
 
 module _ {A B : Type 0} {m n : ℕ} (F : Form A m) (P : Form B n) (o : ℕ) (on : A → Type 0) (get : A → B) where
   -- the part `get a` of a stands, in the form P, at offset o of a's bytes, for each a with `on a`
@@ -289,11 +289,11 @@ module _ {A : Type 0} {k : ℕ} (F : Form A k) (L : Lawful F) (m n i : ℕ) (d :
             record {
               before = λ xs g u. encodeAll F (take i xs);
               after = λ xs g u. encodeAll F (drop (suc i) xs) ++ zeros ((n - m) * k);
-              offset = λ xs g u. block-encodeAll F L (take i xs) (All-take (F .ok) i xs (g .1)) .len ∙ ap (λ (z : ℕ). z * k) (length-take-le i xs (le-of-lt (inside xs (g .0))));
-              got = λ xs g u. All-getD (F .ok) xs i d (inside xs (g .0)) (g .1);
+              offset = λ xs g u. block-encodeAll F L (take i xs) (Each-take (F .ok) i xs (g .1)) .len ∙ ap (λ (z : ℕ). z * k) (length-take-le i xs (le-of-lt (inside xs (g .0))));
+              got = λ xs g u. Each-getD (F .ok) xs i d (inside xs (g .0)) (g .1);
               split = λ xs g u. ap (λ (z : List A). encodeAll F z ++ zeros ((n - m) * k)) (split-at xs i d (inside xs (g .0))) ∙ around xs (getD xs i d);
             };
-        kept = λ xs x g u e. (length-set xs i x ∙ g .0, All-set (F .ok) xs i x (g .1) e);
+        kept = λ xs x g u e. (length-set xs i x ∙ g .0, Each-set (F .ok) xs i x (g .1) e);
         stores = λ xs x g u e. ap (λ (z : List A). encodeAll F z ++ zeros ((n - m) * k)) (set-split xs i x (inside xs (g .0))) ∙ around xs x;
       }
     where

@@ -14,7 +14,8 @@ unfoldable pub use Rattle.base.specs.Update.{upd}
 use Rattle.codec.specs.Form.{Form, Lawful, Inverse, mapped, mapped-lawful}
 use Rattle.codec.specs.Number.{flag, flag-lawful}
 use Rattle.codec.specs.Bytes.{zeros}
-use Rattle.codec.specs.Cells.{All, encodeAll, encodeAll-nil, encodeAll-cons, cells, cells-lawful}
+use Rattle.base.specs.Lists.{Each}
+use Rattle.codec.specs.Cells.{encodeAll, encodeAll-nil, encodeAll-cons, cells, cells-lawful}
 use Rattle.codec.specs.Piece.{Piece, cell, mapped-piece, restated}
 use Rattle.codec.specs.Blank.{Blank, cells-grow}
 
@@ -111,13 +112,13 @@ module _ {A : Type 0} where
 
 -- a property of every value at a key
 module _ {A : Type 0} (P : A → Type 0) (f : ℕ → A) where
-  pub all-keys : (ks : List ℕ) → ((j : ℕ) → has ks j ≡ true → P (f j)) → All P (map f ks)
+  pub all-keys : (ks : List ℕ) → ((j : ℕ) → has ks j ≡ true → P (f j)) → Each P (map f ks)
   unfolding has
   all-keys [] h = tt
   all-keys (y ∷ ys) h =
       (h y (rw (eq-eqb y y refl, has)), all-keys ys (λ j n. h j (by-cases (eqb j y) (λ e. rw (e, has)) (λ e. rw (e, has) n))))
 
-  pub each-key : (ks : List ℕ) → All P (map f ks) → (j : ℕ) → has ks j ≡ true → P (f j)
+  pub each-key : (ks : List ℕ) → Each P (map f ks) → (j : ℕ) → has ks j ≡ true → P (f j)
   unfolding has
   each-key [] a j h = absurd (false≢true h)
   each-key (y ∷ ys) a j h =
@@ -126,7 +127,7 @@ module _ {A : Type 0} (P : A → Type 0) (f : ℕ → A) where
 module _ {A : Type 0} {k : ℕ} (F : Form A k) (ks : List ℕ) (n : ℕ) (d : A) where
   -- the values at the keys are ok, and every other is d
   pub record Tabled (f : ℕ → A) : Type 0 where
-    pub inside : All (F .ok) (map f ks)
+    pub inside : Each (F .ok) (map f ks)
     pub outside : (j : ℕ) → has ks j ≡ false → f j ≡ d
 
   -- a function in n cells, of which the first hold its values at the keys and the others are blank
@@ -182,7 +183,7 @@ unfolding table mapped cells
 table-agree {A} {k} F G ks n d f h =
     ap (λ (z : List ℕ). z ++ zeros ((n - length ks) * k)) (same (map f ks) (all-keys (λ x. F .encode x ≡ G .encode x) f ks h))
   where
-    same : (xs : List A) → All (λ x. F .encode x ≡ G .encode x) xs → encodeAll F xs ≡ encodeAll G xs
+    same : (xs : List A) → Each (λ x. F .encode x ≡ G .encode x) xs → encodeAll F xs ≡ encodeAll G xs
     same [] a = encodeAll-nil F ∙ sym (encodeAll-nil G)
     same (x ∷ xs) a = encodeAll-cons F x xs ∙ ap₂ _++_ (a .0) (same xs (a .1)) ∙ sym (encodeAll-cons G x xs)
 

@@ -1,4 +1,6 @@
 pub mod Acts
-pub mod Keys
 pub mod Parts
-pub mod Reads
+pub mod Changes
+pub mod Changing
+pub mod Writes
+pub mod AtRecorder

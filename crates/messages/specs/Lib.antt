@@ -1,4 +1,3 @@
 pub mod Members
 pub mod Contents
 pub mod Current
-pub mod Acting

@@ -9,8 +9,8 @@ use Rattle.quorum.specs.Sets.{inMask}
 use Rattle.quorum.specs.Votes.{quorum, builtIn}
 use Rattle.model.specs.Hall.{Entries, Service, Hall}
 use Rattle.model.specs.Answers.{plain}
-use Rattle.model.specs.Opening.{Opening, openRefusal, opened}
-use Rattle.model.specs.Call.{Words, hl3, broken, call}
+use Rattle.model.specs.Opening.{Opening, openingOf, openRefusal, opened}
+use Rattle.model.specs.Call.{Words, wordsOf, hl3, broken, call}
 use Rattle.model.specs.Run.{run, answers}
 use Rattle.model.specs.RunFile.{RunText, fileBytes}
 use Rattle.model.specs.Listing.{listing}
@@ -19,12 +19,6 @@ use Rattle.model.specs.Computing.{computing}
 pub record Card : Type 0 where
   pub given : List ℕ
   pub wanted : List ℕ
-
-abbrev pub opening : ℕ → ℕ → Opening
-opening n founders = record { size = n; founders = founders }
-
-abbrev pub words : ℕ → ℕ → ℕ → ℕ → Words
-words k r a b = record { k = k; r = r; a = a; b = b }
 
 -- the numbers of the answers to a list of calls on the hall of an opening
 unfoldable pub numbersOf : Opening → List Words → List ℕ
@@ -38,17 +32,17 @@ quorumCard n b = elim (quorum builtIn n (inMask b)) [ true ↦ 1 | false ↦ 0 ]
 unfoldable pub listingRun : RunText
 listingRun =
     record {
-      opening = opening 1 1;
+      opening = openingOf 1 1;
       actions =
-          words 1 1 700 0
-          ∷ words 2 1 0 0
-          ∷ words 3 1 0 0
-          ∷ words 7 1 1 0
-          ∷ words 8 1 0 0
-          ∷ words 9 1 0 0
-          ∷ words 10 1 0 0
-          ∷ words 11 1 0 0
-          ∷ words 11 1 0 0
+          wordsOf 1 1 700 0
+          ∷ wordsOf 2 1 0 0
+          ∷ wordsOf 3 1 0 0
+          ∷ wordsOf 7 1 1 0
+          ∷ wordsOf 8 1 0 0
+          ∷ wordsOf 9 1 0 0
+          ∷ wordsOf 10 1 0 0
+          ∷ wordsOf 11 1 0 0
+          ∷ wordsOf 11 1 0 0
           ∷ [];
     }
 
@@ -76,7 +70,7 @@ listingCard = record { given = listing hl3 (fileBytes listingRun); wanted = list
 unfoldable pub sizeCard : Card
 sizeCard =
     record {
-      given = openRefusal (opening 0 0) ∷ openRefusal (opening 9 0) ∷ openRefusal (opening 8 0) ∷ [];
+      given = openRefusal (openingOf 0 0) ∷ openRefusal (openingOf 9 0) ∷ openRefusal (openingOf 8 0) ∷ [];
       wanted = 16 ∷ 16 ∷ 0 ∷ [];
     }
 
@@ -84,7 +78,7 @@ sizeCard =
 unfoldable pub foundersCard : Card
 foundersCard =
     record {
-      given = openRefusal (opening 3 8) ∷ openRefusal (opening 3 0) ∷ opened (opening 3 0) .service .members 1;
+      given = openRefusal (openingOf 3 8) ∷ openRefusal (openingOf 3 0) ∷ opened (openingOf 3 0) .service .members 1;
       wanted = 16 ∷ 0 ∷ 1 ∷ 2 ∷ 3 ∷ [];
     }
 
@@ -100,7 +94,7 @@ quorumCards =
 unfoldable pub numberCard : Card
 numberCard =
     record {
-      given = numbersOf (opening 3 0) (words 5 0 0 1 ∷ words 5 0 256 1 ∷ words 5 0 255 1 ∷ words 5 0 255 1 ∷ []);
+      given = numbersOf (openingOf 3 0) (wordsOf 5 0 0 1 ∷ wordsOf 5 0 256 1 ∷ wordsOf 5 0 255 1 ∷ wordsOf 5 0 255 1 ∷ []);
       wanted = 14 ∷ 14 ∷ 0 ∷ 33 ∷ [];
     }
 
@@ -108,29 +102,29 @@ numberCard =
 unfoldable pub enterCard : Card
 enterCard =
     record {
-      given = numbersOf (opening 3 0) (words 5 0 2 1 ∷ words 5 0 3 1 ∷ words 6 1 3 0 ∷ words 6 1 2 0 ∷ []);
+      given = numbersOf (openingOf 3 0) (wordsOf 5 0 2 1 ∷ wordsOf 5 0 3 1 ∷ wordsOf 6 1 3 0 ∷ wordsOf 6 1 2 0 ∷ []);
       wanted = 0 ∷ 0 ∷ 0 ∷ 36 ∷ [];
     }
 
 -- "P enter a new one-member view, submit, label: 37; after its summary is sent, placed and received: labelled."
 unfoldable pub labelCalls : List Words
 labelCalls =
-    words 5 0 2 1
-    ∷ words 6 1 2 0
-    ∷ words 1 1 5 0
-    ∷ words 2 1 0 0
-    ∷ words 4 1 0 0
-    ∷ words 7 1 2 0
-    ∷ words 8 1 0 0
-    ∷ words 2 1 0 0
+    wordsOf 5 0 2 1
+    ∷ wordsOf 6 1 2 0
+    ∷ wordsOf 1 1 5 0
+    ∷ wordsOf 2 1 0 0
+    ∷ wordsOf 4 1 0 0
+    ∷ wordsOf 7 1 2 0
+    ∷ wordsOf 8 1 0 0
+    ∷ wordsOf 2 1 0 0
     ∷ []
 
 -- the answers, then the view and sequence number of the entry's label
 unfoldable pub labelCard : Card
 labelCard =
-    let es = run hl3 (opened (opening 3 0)) labelCalls .entries in
+    let es = run hl3 (opened (openingOf 3 0)) labelCalls .entries in
     record {
-      given = numbersOf (opening 3 0) labelCalls ++ (es .labelView 1 ∷ es .labelSeq 1 ∷ []);
+      given = numbersOf (openingOf 3 0) labelCalls ++ (es .labelView 1 ∷ es .labelSeq 1 ∷ []);
       wanted = 0 ∷ 0 ∷ 0 ∷ 37 ∷ 0 ∷ 0 ∷ 0 ∷ 0 ∷ 2 ∷ 1 ∷ [];
     }
 
@@ -139,9 +133,9 @@ unfoldable pub orderCard : Card
 orderCard =
     record {
       given =
-          plain (call hl3 broken (words 12 0 0 0) .answer) .number
-          ∷ plain (call hl3 broken (words 1 0 0 0) .answer) .number
-          ∷ numbersOf (opening 3 0) (words 6 9 0 0 ∷ []);
+          plain (call hl3 broken (wordsOf 12 0 0 0) .answer) .number
+          ∷ plain (call hl3 broken (wordsOf 1 0 0 0) .answer) .number
+          ∷ numbersOf (openingOf 3 0) (wordsOf 6 9 0 0 ∷ []);
       wanted = 11 ∷ 31 ∷ 12 ∷ [];
     }
 
@@ -150,8 +144,8 @@ unfoldable pub safeCard : Card
 safeCard =
     record {
       given =
-          numbersOf (opening 2 0)
-          (words 1 1 5 0 ∷ words 2 1 0 0 ∷ words 3 1 0 0 ∷ words 7 1 1 0 ∷ words 8 1 0 0 ∷ words 9 1 0 0 ∷ []);
+          numbersOf (openingOf 2 0)
+          (wordsOf 1 1 5 0 ∷ wordsOf 2 1 0 0 ∷ wordsOf 3 1 0 0 ∷ wordsOf 7 1 1 0 ∷ wordsOf 8 1 0 0 ∷ wordsOf 9 1 0 0 ∷ []);
       wanted = 0 ∷ 0 ∷ 0 ∷ 0 ∷ 0 ∷ 39 ∷ [];
     }
 

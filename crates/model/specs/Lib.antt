@@ -11,9 +11,9 @@ pub mod Opening
 pub mod Page
 pub mod Call
 pub mod Run
+pub mod Agreed
 pub mod RunFile
 pub mod Listing
 pub mod Computing
 pub mod Cards
 pub mod WrongHalls
-pub mod Agreement

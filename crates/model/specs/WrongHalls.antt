@@ -12,12 +12,12 @@ use Rattle.model.specs.Hall.{Service, Recorders, Hall}
 use Rattle.model.specs.Fields.{setConfirm, setRecorders}
 use Rattle.model.specs.Answers.{Answer, done, refused, plain}
 use Rattle.model.specs.Refusals.{Rules, noneToReceive}
-use Rattle.model.specs.Opening.{Opening, opened}
+use Rattle.model.specs.Opening.{Opening, openingOf, opened}
 use Rattle.model.specs.Page.{page, plainPage}
-use Rattle.model.specs.Call.{Words, hl3, Stored, hall, broken, Called, call}
+use Rattle.model.specs.Call.{Words, wordsOf, hl3, Stored, hall, broken, Called, call}
 use Rattle.model.specs.RunFile.{RunText, Reading, readFile, fileBytes}
 use Rattle.model.specs.Listing.{line, hall-word, decimal, actionLines, refusedLine, listing}
-use Rattle.model.specs.Cards.{opening, words, listingRun}
+use Rattle.model.specs.Cards.{listingRun}
 use Rattle.model.specs.Computing.{computing}
 
 -- anything that answers calls on lent bytes
@@ -92,21 +92,21 @@ pub record Wrong : Type 0 where
   pub calls : List Words
 
 unfoldable pub start : Stored
-start = hall (opened (opening 2 0))
+start = hall (opened (openingOf 2 0))
 
 unfoldable pub toldApart : Wrong → Bool
 toldApart x = not (same (seen (x .engine) start (x .calls)) (seen (call hl3) start (x .calls)))
 
 unfoldable pub submitAndReceive : List Words
 submitAndReceive =
-    words 1 1 5 0 ∷ words 2 1 0 0 ∷ words 3 1 0 0 ∷ words 7 1 1 0 ∷ words 8 1 0 0 ∷ words 9 1 0 0 ∷ []
+    wordsOf 1 1 5 0 ∷ wordsOf 2 1 0 0 ∷ wordsOf 3 1 0 0 ∷ wordsOf 7 1 1 0 ∷ wordsOf 8 1 0 0 ∷ wordsOf 9 1 0 0 ∷ []
 
 unfoldable pub wrongHalls : List Wrong
 wrongHalls =
     record { engine = turnsDownAll; calls = submitAndReceive }
     ∷ record { engine = okToAll; calls = submitAndReceive }
     ∷ record { engine = neverMoves; calls = submitAndReceive }
-    ∷ record { engine = onlyFirstView; calls = words 5 0 2 1 ∷ words 6 1 2 0 ∷ [] }
+    ∷ record { engine = onlyFirstView; calls = wordsOf 5 0 2 1 ∷ wordsOf 6 1 2 0 ∷ [] }
     ∷ record { engine = inventedMarks; calls = submitAndReceive }
     ∷ record { engine = refusesFirst; calls = submitAndReceive }
     ∷ []

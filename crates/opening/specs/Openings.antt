@@ -9,18 +9,15 @@ use lib.ListN.{length, drop}
 use lib.Pow.{pow-pos, shl-exact}
 use borrow.Author.Tests.{le-leb, lt-leb, eq-eqb, ne-eqb}
 use Rattle.quorum.specs.Sets.{inMask, members, has}
-use Rattle.quorum.specs.SetLaws.{has-members}
+use Rattle.quorum.proofs.SetLaws.{has-members}
 use Rattle.model.specs.Base.{within, refuse, _⨾_}
 use Rattle.model.specs.Hall.{maxRecorders, Hall}
-use Rattle.model.specs.Opening.{Opening, wrongOpening, openRefusal, opened}
+use Rattle.model.specs.Opening.{openingOf, wrongOpening, openRefusal, opened}
 use Rattle.store.specs.Layout.{storedLength}
 use Rattle.store.specs.StoredForm.{stored}
-use Rattle.engine.specs.Calls.{withHall, openNumber, openOn}
-use Rattle.engine.specs.Opened.{founderMask, begun, begun-opened, Taken, taken, open-refused, open-taken}
-
--- the opening with the words n and founders
-abbrev pub openingOf : ℕ → ℕ → Opening
-openingOf n founders = record { size = n; founders = founders }
+use Rattle.calls.specs.Calls.{withHall, openNumber, openOn}
+use Rattle.calls.proofs.OpenLaws.{open-refused, open-taken}
+use Rattle.opening.specs.Opened.{founderMask, begun, begun-opened, Taken, taken}
 
 pub one-shifted : (n : ℕ) → n ≤ 8 → 1 * 2 ^ n % 4294967296 ≡ 2 ^ n
 one-shifted n h = shl-exact {a = 1} 1 n 32 (lit< tt) (omega arith) ∙ omega arith

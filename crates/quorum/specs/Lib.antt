@@ -1,4 +1,2 @@
 pub mod Sets
-pub mod SetLaws
 pub mod Votes
-pub mod VoteLaws

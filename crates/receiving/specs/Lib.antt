@@ -1,5 +1,2 @@
 pub mod Cells
 pub mod Values
-pub mod Next
-pub mod Learning
-pub mod Receiving

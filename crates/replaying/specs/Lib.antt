@@ -4,6 +4,4 @@ pub mod Going
 pub mod Numbers
 pub mod Longest
 pub mod Files
-pub mod Whole
 pub mod Lines
-pub mod Runs

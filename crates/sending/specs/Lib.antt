@@ -1,4 +1,1 @@
 pub mod Values
-pub mod Both
-pub mod Entry
-pub mod Summary

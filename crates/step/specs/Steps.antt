@@ -8,29 +8,21 @@ use lib.Dec.{eqb}
 use lib.ListN.{List·getD-eq-default}
 use borrow.Author.Tests.{eq-eqb, ne-eqb, eqb-true}
 use Rattle.model.specs.Base.{_⨾_}
-use Rattle.model.specs.Agreement.Chains.{chain-none}
+use Rattle.model.proofs.Agreement.Chains.{chain-none}
 use Rattle.codec.specs.Table.{by-cases}
 use Rattle.quorum.specs.Sets.{recorders, filter}
-use Rattle.quorum.specs.SetLaws.{all-recorders}
+use Rattle.quorum.proofs.SetLaws.{all-recorders}
 use Rattle.model.specs.Kinds.{Kind, KindWord, kind, noKind, kinds, kindOf, inputRefusal}
 use Rattle.model.specs.Answers as model
-use Rattle.model.specs.Call.{Words}
+use Rattle.model.specs.Call.{Words, wordsOf}
 use Rattle.store.specs.StoredForm.{hallOf, isStored}
 use Rattle.answer.specs.declared.Answer.{Answer}
 use Rattle.answer.specs.Meaning.{meaning}
-use Rattle.engine.specs.Calls.{Outcome, stepOn}
-use Rattle.engine.specs.ByKind.{kindOn, actOn, give, step-by-kind}
-use Rattle.engine.specs.Words.{kindAt}
+use Rattle.calls.specs.Calls.{Outcome, stepOn}
+use Rattle.calls.specs.Steps.{Steps}
+use Rattle.calls.specs.ByKind.{kindOn, actOn, give, step-by-kind}
+use Rattle.words.specs.Words.{kindAt}
 use Rattle.hall.specs.Acts.{Judged, Does}
-
--- "An action is four 32-bit words K, R, A, B"
-abbrev pub wordsOf : ℕ → ℕ → ℕ → ℕ → Words
-wordsOf k r a d = record { k = k; r = r; a = a; b = d }
-
--- the answer x and the bytes c are those of the step's definition
-pub record Steps (b : List ℕ) (k r a d : ℕ) (x : Answer) (c : List ℕ) : Type 0 where
-  pub answer : meaning x ≡ stepOn b (wordsOf k r a d) .answer
-  pub bytes : c ≡ stepOn b (wordsOf k r a d) .bytes
 
 -- ## The kind's word
 

@@ -10,13 +10,8 @@ pub mod KeepRules
 pub mod KeepValid
 pub mod Layout
 pub mod Masks
-pub mod Messages
-pub mod Pieces
-pub mod Puts
 pub mod Ranges
 pub mod StoredForm
 pub mod Valid
 pub mod ViewForm
-pub mod ViewPieces
-pub mod Growth
-pub mod Access
+pub mod Exact

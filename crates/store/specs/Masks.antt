@@ -10,7 +10,7 @@ use lib.Pow.{pow-pos, pow-mono, pow-add}
 use Rattle.codec.specs.Form.{Form, Lawful, mapped, mapped-lawful}
 use Rattle.codec.specs.Number.{number, byte, byte-lawful}
 use Rattle.quorum.specs.Sets.{has, rising, members, mask}
-use Rattle.quorum.specs.SetLaws.{has-head, has-later, rising-cons, rising-members, mask-members, members-range}
+use Rattle.quorum.proofs.SetLaws.{has-head, has-later, rising-cons, rising-members, mask-members, members-range}
 use Rattle.store.specs.Valid.{EachIn}
 
 -- a list above a has the lowest a bits clear

@@ -8,11 +8,11 @@ use lib.ListN.{length-map}
 use Rattle.codec.specs.Form.{Form, Lawful, Inverse, mapped, mapped-lawful, guarded, guarded-lawful}
 use Rattle.codec.specs.Number.{number, number-lawful}
 use Rattle.codec.specs.Pair.{given, pair, pair-lawful}
-use Rattle.codec.specs.Cells.{All}
+use Rattle.base.specs.Lists.{Each}
 use Rattle.codec.specs.Bounded.{bounded, bounded-lawful}
 use Rattle.codec.specs.Table.{by-cases, Distinct, Above, above-distinct, lookup, lookup-map, lookup-outside, map-lookup, all-keys, each-key}
 use Rattle.quorum.specs.Sets.{has, rising}
-use Rattle.quorum.specs.SetLaws.{rising-cons, rising-above}
+use Rattle.quorum.proofs.SetLaws.{rising-cons, rising-above}
 use Rattle.model.specs.Hall.{maxViews, maxNumber}
 use Rattle.store.specs.Layout.{viewSize}
 use Rattle.store.specs.Valid.{ViewsIn}
@@ -123,7 +123,7 @@ module _ (n : ℕ) where
           let ks = numbersOf xs in
           let look = lookup ks [] (setsOf xs) in
           let at : (g : ℕ) → has ks g ≡ true → viewForm n .ok (g, look g) =
-          each-key (viewForm n .ok) (λ (g : ℕ). (g, look g)) ks (subst (All (viewForm n .ok)) (sym (from-to xs (h .1))) (h .0 .1)) in
+          each-key (viewForm n .ok) (λ (g : ℕ). (g, look g)) ks (subst (Each (viewForm n .ok)) (sym (from-to xs (h .1))) (h .0 .1)) in
           let set : (g : ℕ) → SetOf n (look g) =
           λ g. by-cases (has ks g) (λ k. at g k .1 .0) (λ k. subst (SetOf n) (sym (lookup-outside ks [] (setsOf xs) g k)) nobody) in
           record {

@@ -1,4 +1,2 @@
-pub mod Decimal
-pub mod Denoted
 pub mod Text
 pub mod Fields

@@ -12,7 +12,7 @@ use Rattle.codec.specs.Bytes.{part, part-rest}
 use Rattle.codec.specs.Number.{value}
 use Rattle.codec.specs.Table.{by-cases}
 use Rattle.quorum.specs.Sets.{has, recorders}
-use Rattle.quorum.specs.SetLaws.{has-head, has-later, has-cons, has-there, has-recorders}
+use Rattle.quorum.proofs.SetLaws.{has-head, has-later, has-cons, has-there, has-recorders}
 use Rattle.model.specs.Base.{all}
 use Rattle.ranges.specs.TableParts.{viewNumbers}
 

@@ -17,7 +17,7 @@ use Rattle.codec.specs.ByteList.{listAt, decode-list, valid-list-count}
 use Rattle.codec.specs.Slice.{Held}
 use Rattle.codec.specs.Table.{by-cases, flags}
 use Rattle.quorum.specs.Sets.{has, recorders, members}
-use Rattle.quorum.specs.SetLaws.{recorders-range, members-range, has-recorders}
+use Rattle.quorum.proofs.SetLaws.{recorders-range, members-range, has-recorders}
 use Rattle.model.specs.Base.{all}
 use Rattle.model.specs.Hall.{maxEntries, maxRecorders, Entries, Message, Message.entry, Message.summary, Queued, Summary, Hall}
 use Rattle.model.specs.Opening.{blankSummary}

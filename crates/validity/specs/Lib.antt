@@ -4,4 +4,3 @@ pub mod Values
 pub mod RawHall
 pub mod RawCells
 pub mod CrossParts
-pub mod CodeLaws

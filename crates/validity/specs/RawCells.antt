@@ -20,7 +20,7 @@ use Rattle.store.specs.Layout.{recordersAt, recorderSize, placeSize, queuesAt, 
 use Rattle.store.specs.Cells.{recorderAt, placeAt}
 use Rattle.store.specs.CellForms.{viewNumber, summaryForm, sentForm, recorderForm, recorder-lawful, messageForm, placeForm, place-lawful, queuedForm, queueForm, queue-lawful}
 use Rattle.store.specs.HallForm.{hallFields, hallFields-lawful}
-use Rattle.store.specs.Pieces.{recorder-piece, place-piece, queue-piece}
+use Rattle.store.proofs.Pieces.{recorder-piece, place-piece, queue-piece}
 use Rattle.ranges.specs.Loops.{bounded-part, bounded-over, bounded-value}
 use Rattle.ranges.specs.CellParts.{recorder-part, recorderRest, place-part, sent-over, sent-some, summary-part}
 use Rattle.validity.specs.Alls.{viewAt}

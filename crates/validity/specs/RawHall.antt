@@ -18,7 +18,7 @@ use Rattle.codec.specs.Pair.{given, pair}
 use Rattle.codec.specs.Slice.{Held, valueOf, value-ok, slice-value, slice-valid}
 use Rattle.codec.specs.Table.{by-cases, Distinct, place, table, numbers}
 use Rattle.quorum.specs.Sets.{has, members, recorders, inMask, filter}
-use Rattle.quorum.specs.SetLaws.{has-head, has-later, has-here, has-there, has-filter}
+use Rattle.quorum.proofs.SetLaws.{has-head, has-later, has-here, has-there, has-filter}
 use Rattle.model.specs.Hall.{maxEntries, maxViews, maxRecorders, Hall}
 use Rattle.store.specs.Layout.{storedLength, viewCells, viewSize, entryCells, entrySize}
 use Rattle.store.specs.Valid.{InRange}
@@ -27,8 +27,8 @@ use Rattle.store.specs.CellForms.{entryForm, entry-lawful}
 use Rattle.store.specs.ViewForm.{viewForm, view-lawful, viewsForm, rising-distinct}
 use Rattle.store.specs.HallForm.{entriesForm, recordersForm, networkForm, queuesForm, bodyForm, afterSize, fields, hallFields, hallFields-lawful}
 use Rattle.store.specs.HallOk.{fields-ok}
-use Rattle.store.specs.Pieces.{entry-piece}
-use Rattle.store.specs.ViewPieces.{view-view}
+use Rattle.store.proofs.Pieces.{entry-piece}
+use Rattle.store.proofs.ViewPieces.{view-view}
 use Rattle.ranges.specs.Parts.{given-value, byte-in}
 use Rattle.ranges.specs.CellParts.{entry-value}
 use Rattle.ranges.specs.TableParts.{viewNumbers, length-viewNumbers, views-count, views-created, whole-parts}

@@ -7,7 +7,7 @@ use Rattle.model.specs.Hall.{maxOrder, Hall}
 use Rattle.model.specs.Fields.{setConfirm, setRecorders}
 use Rattle.model.specs.Call.{hl3, Stored, hall, broken, call}
 use Rattle.model.specs.WrongHalls.{Engine}
-use Rattle.model.specs.Agreement.Tools.{upd-at}
+use Rattle.model.proofs.Agreement.Tools.{upd-at}
 use Rattle.store.specs.Valid.{ValidHall}
 use Rattle.store.specs.KeepFacts.{Between, Outside, not-outside}
 use Rattle.store.specs.KeepRules.{facts-of, valid-of}

@@ -9,13 +9,12 @@ use lib.ListN.{drop}
 use Rattle.model.specs.Hall.{Hall}
 use Rattle.model.specs.Answers.{Answer, plain}
 use Rattle.model.specs.Page.{PageAnswer, page, plainPage}
-use Rattle.model.specs.Call.{Words, hl3, Stored, hall, broken, Called, call}
+use Rattle.model.specs.Call.{Words, hl3, Stored, hall, broken, Called, call, WordsIn}
 use Rattle.model.specs.WrongHalls.{Engine, pageSeen, seen}
 use Rattle.store.specs.Layout.{storedLength}
 use Rattle.store.specs.Valid.{ValidHall}
 use Rattle.store.specs.StoredForm.{stored, hallOf, stored-isStored, hallOf-stored}
-use Rattle.store.specs.KeepValid.{WordsIn}
-use Rattle.engine.specs.Calls.{held, withHall, withStored, Outcome, pageOn, stepOn}
+use Rattle.calls.specs.Calls.{held, withHall, withStored, Outcome, pageOn, stepOn}
 
 -- anything that answers calls on lent bytes
 abbrev pub Program : Type 0

@@ -13,19 +13,18 @@ use Rattle.model.specs.Base.{refuse, _⨾_}
 use Rattle.model.specs.Kinds.{KindWord, kind, noKind, kindOf}
 use Rattle.model.specs.Answers.{refused}
 use Rattle.model.specs.Actions.{Outcome, act}
-use Rattle.model.specs.Opening.{openRefusal, opened}
-use Rattle.model.specs.Call.{hl3, hall, Called, call, step}
-use Rattle.model.specs.Cards.{opening, words}
+use Rattle.model.specs.Opening.{openingOf, openRefusal, opened}
+use Rattle.model.specs.Call.{wordsOf, hl3, hall, Called, call, step, WordsIn}
 use Rattle.model.specs.Computing.{computing}
 use Rattle.model.specs.WrongHalls.{Engine, Wrong, turnsDownAll, okToAll, neverMoves, onlyFirstView, refusesFirst, pageSeen, seen, same, start, toldApart, submitAndReceive}
 use Rattle.codec.specs.Bytes.{zeros}
 use Rattle.store.specs.Layout.{storedLength}
 use Rattle.store.specs.Valid.{ValidHall}
 use Rattle.store.specs.StoredForm.{stored}
-use Rattle.store.specs.KeepFacts.{Each}
-use Rattle.store.specs.KeepValid.{WordsIn, step-valid, open-valid}
-use Rattle.engine.specs.Calls.{withHall, stepOn, openNumber, openOn}
-use Rattle.engine.specs.Opened.{open-taken}
+use Rattle.base.specs.Lists.{Each}
+use Rattle.store.specs.KeepValid.{step-valid, open-valid}
+use Rattle.calls.specs.Calls.{withHall, stepOn, openNumber, openOn}
+use Rattle.calls.proofs.OpenLaws.{open-taken}
 use Rattle.wrong.specs.Programs.{onBytes, step-on-bytes, seenOn, IsValid, Keeps, seen-stored}
 use Rattle.wrong.specs.InventedMark.{markTwo, storedTwo, inventedMark, two-keeps}
 
@@ -71,7 +70,7 @@ wrongOnes =
     submits turnsDownAll
     ∷ submits okToAll
     ∷ submits neverMoves
-    ∷ record { engine = onlyFirstView; calls = words 5 0 2 1 ∷ words 6 1 2 0 ∷ [] }
+    ∷ record { engine = onlyFirstView; calls = wordsOf 5 0 2 1 ∷ wordsOf 6 1 2 0 ∷ [] }
     ∷ submits inventedMark
     ∷ submits refusesFirst
     ∷ []
@@ -99,7 +98,7 @@ kept =
 
 -- the bytes of a slice in which a hall of two recorders was opened
 unfoldable pub openedIn : List ℕ → List ℕ
-openedIn b = openOn b (opening 2 0) .bytes
+openedIn b = openOn b (openingOf 2 0) .bytes
 
 -- the calls tell x on bytes from the definition of a step, in every slice long enough for a hall; so x is not that definition
 pub record Shut (x : Wrong) : Type 0 where
@@ -107,14 +106,14 @@ pub record Shut (x : Wrong) : Type 0 where
       → same (seenOn (onBytes (x .engine)) (openedIn b) (x .calls)) (seenOn stepOn (openedIn b) (x .calls)) ≡ false
   pub differs : onBytes (x .engine) ≡ stepOn → ⊥
 
-taken : openRefusal (opening 2 0) ≡ 0
+taken : openRefusal (openingOf 2 0) ≡ 0
 unfolding computing
 taken = refl
 
-opened-in : (b : List ℕ) → storedLength ≤ length b → openedIn b ≡ stored (opened (opening 2 0)) ++ drop storedLength b
+opened-in : (b : List ℕ) → storedLength ≤ length b → openedIn b ≡ stored (opened (openingOf 2 0)) ++ drop storedLength b
 unfolding openedIn openNumber withHall refuse _⨾_
 opened-in b l =
-    open-taken b (opening 2 0) (ap₂ (λ (k : ℕ) (t : Bool). k ⨾ refuse t 18) taken (le-ltb (length b) storedLength l)) .1
+    open-taken b (openingOf 2 0) (ap₂ (λ (k : ℕ) (t : Bool). k ⨾ refuse t 18) taken (le-ltb (length b) storedLength l)) .1
 
 same-refl : (xs : List ℕ) → same xs xs ≡ true
 unfolding same
@@ -129,7 +128,7 @@ shut x t keeps low = record { apart = apart; differs = differs }
         → seenOn (onBytes f) (openedIn b) (x .calls) ≡ seen f start (x .calls)
     seen-opened f keeps b l =
         ap (λ c. seenOn (onBytes f) c (x .calls)) (opened-in b l)
-        ∙ seen-stored f keeps (opened (opening 2 0)) (drop storedLength b) (x .calls) (open-valid (opening 2 0) taken) low
+        ∙ seen-stored f keeps (opened (openingOf 2 0)) (drop storedLength b) (x .calls) (open-valid (openingOf 2 0) taken) low
 
     apart : (b : List ℕ) → storedLength ≤ length b
         → same (seenOn (onBytes (x .engine)) (openedIn b) (x .calls)) (seenOn stepOn (openedIn b) (x .calls)) ≡ false

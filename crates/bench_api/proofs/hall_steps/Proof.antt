@@ -7,9 +7,9 @@ use mathlib.Core.Path.{sym, _∙_}
 use Rattle.codec.specs.Table.{by-cases}
 use Rattle.store.specs.StoredForm.{isStored}
 use Rattle.runfile.specs.Answers.{actionsOf}
-use Rattle.runfile.specs.Write.{length-actionsOf}
+use Rattle.runfile.proofs.WriteLaws.{length-actionsOf}
 use Rattle.step.specs.Steps.{bytes-hall, bytes-hold}
-use Rattle.bench_api.specs.Runs.{run-all, run-broken}
+use Rattle.bench_api.proofs.Runs.{run-all, run-broken}
 use borrow.Author.Needs.{needs}
 use Rattle.bench_api.proofs.hall_steps.Statement.{statement}
 use Rattle.bench_api.proofs.hall_steps.Tie as tie

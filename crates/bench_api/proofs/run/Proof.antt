@@ -7,10 +7,10 @@ use mathlib.Core.Path.{_≡_, refl, ap, _∙_}
 use mathlib.Core.Bool.{true}
 use lib.ListN.{length, take}
 use Rattle.store.specs.StoredForm.{isStored}
-use Rattle.engine.specs.Calls.{runOn}
+use Rattle.calls.specs.Calls.{runOn}
 use Rattle.runfile.specs.Answers.{actionsOf}
 use Rattle.replaying.specs.Steps.{step-holds}
-use Rattle.bench_api.specs.Runs.{run-next}
+use Rattle.bench_api.proofs.Runs.{run-next}
 use Rattle.bench_api.proofs.run.Statement.{statement}
 use Rattle.bench_api.proofs.run.Tie as tie
 

@@ -1,6 +1,6 @@
 -- `marshal::put_values` meets its contract. Assumes nothing.
-use Rattle.marshal.specs.Words.{put-next, put-rest}
-use Rattle.marshal.specs.Lent.{wordsBytes}
+use Rattle.marshal.proofs.Words.{put-next, put-rest}
+use Rattle.calls.specs.Lent.{wordsBytes}
 use lib.Seq.{sets, length-sets}
 use lib.ListN.{length, take}
 use mathlib.Core.Path.{_≡_, refl, sym, ap, _∙_}

@@ -1,10 +1,11 @@
 -- `marshal::step_into` meets its contract. Assumes nothing.
-use Rattle.marshal.specs.Refused.{refused-keeps, lent-refused, lent-tried, lent-done, answer-values}
-use Rattle.marshal.specs.Lent.{withAnswer, stepLent}
+use Rattle.calls.proofs.Refused.{step-keeps, lent-refused, lent-tried, lent-done}
+use Rattle.marshal.proofs.Answers.{answer-values}
+use Rattle.calls.specs.Lent.{withAnswer, stepLent}
 use Rattle.answer.specs.Meaning.{meaning}
 use lib.ListN.{length}
-use Rattle.step.specs.Steps.{wordsOf}
-use Rattle.engine.specs.Calls.{stepOn}
+use Rattle.model.specs.Call.{wordsOf}
+use Rattle.calls.specs.Calls.{stepOn}
 use Rattle.model.specs.Answers.{Answer, plain}
 use denote.Ref.{now}
 use mathlib.Core.Path.{_≡_, refl, sym, ap, _∙_}
@@ -41,7 +42,7 @@ returns-2 c =
     let a = c .before .before .before .before .before .before .before .before .before .before .args in
     let w = wordsOf (a .k) (a .r) (a .a) (a .d) in
     let l = lent-refused (plain (stepOn (now (a .hall)) w .answer)) (now (a .hall)) (stepOn (now (a .hall)) w .bytes) (now (a .out)) _ (c .before .before .plain .ensures .number ∙ ap (λ (x : Answer). plain x .number) (c .before .before .before .before .before .step .ensures .answer)) (c .if2 .taken) in
-    record { number = l .number; hall = c .before .before .before .before .before .step .ensures .bytes ∙ refused-keeps (now (a .hall)) w (λ z. c .if2 .taken ((c .before .before .plain .ensures .number ∙ ap (λ (x : Answer). plain x .number) (c .before .before .before .before .before .step .ensures .answer)) ∙ z)) ∙ l .hall; answer = l .answer }
+    record { number = l .number; hall = c .before .before .before .before .before .step .ensures .bytes ∙ step-keeps (now (a .hall)) w (λ z. c .if2 .taken ((c .before .before .plain .ensures .number ∙ ap (λ (x : Answer). plain x .number) (c .before .before .before .before .before .step .ensures .answer)) ∙ z)) ∙ l .hall; answer = l .answer }
 
 slice-aggregate-put-values : tie.Need-slice-aggregate-put-values
 slice-aggregate-put-values c = search needs

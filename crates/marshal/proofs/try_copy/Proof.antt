@@ -1,9 +1,9 @@
 -- `marshal::try_copy` meets its contract. Assumes nothing.
-use Rattle.marshal.specs.Refused.{copied, answer-first}
+use Rattle.marshal.proofs.Answers.{copied, answer-first}
 use Rattle.store.specs.Layout.{storedLength}
 use lib.ListN.{length, take}
-use Rattle.step.specs.Steps.{wordsOf}
-use Rattle.engine.specs.Calls.{stepOn}
+use Rattle.model.specs.Call.{wordsOf}
+use Rattle.calls.specs.Calls.{stepOn}
 use Rattle.model.specs.Answers.{Answer, plain}
 use denote.Ref.{now}
 use mathlib.Core.Path.{_≡_, refl, sym, ap, _∙_}

@@ -1,8 +1,8 @@
 -- `marshal::try_short` meets its contract. Assumes nothing.
-use Rattle.marshal.specs.Refused.{short-broken, answer-broken}
+use Rattle.marshal.proofs.Answers.{short-broken, answer-broken}
 use lib.Dec.{lit<}
-use Rattle.step.specs.Steps.{wordsOf}
-use Rattle.engine.specs.Calls.{stepOn}
+use Rattle.model.specs.Call.{wordsOf}
+use Rattle.calls.specs.Calls.{stepOn}
 use Rattle.model.specs.Answers.{Answer, plain}
 use mathlib.Core.Path.{_≡_, refl, sym, ap, _∙_}
 use borrow.Author.Needs.{needs}

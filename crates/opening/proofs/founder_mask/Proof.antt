@@ -1,7 +1,7 @@
 -- `opening::founder_mask` meets its contract. Assumes nothing.
 use borrow.Author.Needs.{needs}
 use borrow.Author.Tests.{eq-eqb, ne-eqb}
-use Rattle.engine.specs.Opened.{founderMask}
+use Rattle.opening.specs.Opened.{founderMask}
 use Rattle.opening.proofs.founder_mask.Statement.{statement}
 use Rattle.opening.proofs.founder_mask.Tie as tie
 

@@ -2,7 +2,7 @@
 use mathlib.Core.Path.{_∙_}
 use borrow.Author.Needs.{needs}
 use Rattle.quorum.specs.Sets.{inMask}
-use Rattle.quorum.specs.VoteLaws.{quorum-built-in}
+use Rattle.quorum.proofs.VoteLaws.{quorum-built-in}
 use Rattle.quorum.proofs.is_primary.Statement.{statement}
 use Rattle.quorum.proofs.is_primary.Tie as tie
 

@@ -3,7 +3,7 @@ use mathlib.Core.Path.{_∙_}
 use borrow.Author.Needs.{needs}
 use Rattle.quorum.specs.Sets.{inMask}
 use Rattle.quorum.specs.Votes.{rowOf}
-use Rattle.quorum.specs.VoteLaws.{quorum-test, votes-all}
+use Rattle.quorum.proofs.VoteLaws.{quorum-test, votes-all}
 use Rattle.quorum.proofs.is_quorum.Statement.{statement}
 use Rattle.quorum.proofs.is_quorum.Tie as tie
 

@@ -6,7 +6,7 @@ use mathlib.Core.Path.{_≡_, refl}
 use borrow.Author.Needs.{needs}
 use Rattle.quorum.specs.Sets.{inMask}
 use Rattle.quorum.specs.Votes.{votes, rowOf}
-use Rattle.quorum.specs.VoteLaws.{votes-next}
+use Rattle.quorum.proofs.VoteLaws.{votes-next}
 use Rattle.quorum.proofs.votes.Statement.{statement}
 use Rattle.quorum.proofs.votes.Tie as tie
 

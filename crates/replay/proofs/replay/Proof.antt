@@ -1,7 +1,7 @@
 -- Slices of these lengths are never too short. Assumes nothing.
 use borrow.Author.Needs.{needs}
 use denote.Ref.{now}
-use Rattle.replaying.specs.Whole.{always-listed}
+use Rattle.replaying.proofs.Whole.{always-listed}
 use Rattle.replay.proofs.replay.Statement.{statement}
 use Rattle.replay.proofs.replay.Tie as tie
 

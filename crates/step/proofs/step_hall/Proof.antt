@@ -1,5 +1,5 @@
 -- `step::step_hall` meets its contract. Assumes nothing.
-use Rattle.engine.specs.Words.{kindAt}
+use Rattle.words.specs.Words.{kindAt}
 use Rattle.model.specs.Kinds.{inputRefusal}
 use Rattle.step.specs.Steps as steps
 use mathlib.Core.Path.{_≡_, sym, ap, _∙_}

@@ -7,7 +7,7 @@ use borrow.Fn.Kinds.{In}
 use borrow.Fn.PlainCycle.{Measures, is, falls, and}
 use borrow.Author.Needs.{needs}
 use Rattle.model.specs.Listing.{decimal}
-use Rattle.text.specs.Decimal.{length-small, length-more, decimal-word}
+use Rattle.text.proofs.Decimal.{length-small, length-more, decimal-word}
 use Rattle.text.proofs.decimal_len.Reads as reads
 use Rattle.text.proofs.decimal_len.Kinds as kinds
 use Rattle.text.proofs.+decimal_len.Lts-decimal_len as lts

@@ -3,7 +3,7 @@ use denote.Ref.{now}
 use native.Mathlib.Omega.{arith}
 use mathlib.Core.Path.{sym, _∙_}
 use Rattle.validity.specs.RawHall.{ranged}
-use Rattle.validity.specs.CodeLaws.{stored-short, fields-held, stored-range, stored-cross}
+use Rattle.validity.proofs.CodeLaws.{stored-short, fields-held, stored-range, stored-cross}
 use borrow.Author.Needs.{needs}
 use Rattle.validity.proofs.is_hall.Statement.{statement}
 use Rattle.validity.proofs.is_hall.Tie as tie

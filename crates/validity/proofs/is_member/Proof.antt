@@ -3,7 +3,7 @@ use native.Mathlib.Omega.{arith}
 use mathlib.Core.Path.{sym}
 use mathlib.Core.Logic.{inl, inr}
 use Rattle.quorum.specs.Sets.{inMask}
-use Rattle.quorum.specs.SetLaws.{has-members, has-members-above}
+use Rattle.quorum.proofs.SetLaws.{has-members, has-members-above}
 use borrow.Author.Needs.{needs}
 use Rattle.validity.proofs.is_member.Statement.{statement}
 use Rattle.validity.proofs.is_member.Tie as tie

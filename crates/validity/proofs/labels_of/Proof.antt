@@ -5,7 +5,7 @@ use Prim.Native.Nat.{ℕ, _-_, _≤_}
 use native.Mathlib.Omega.{arith}
 use mathlib.Core.Path.{_≡_, refl, ap, subst, _∙_}
 use lib.ListN.{length, getD, length-set}
-use Rattle.validity.specs.CodeLaws.{labelByte, labels-start, labels-next, labels-done}
+use Rattle.validity.proofs.CodeLaws.{labelByte, labels-start, labels-next, labels-done}
 use Rattle.validity.proofs.labels_of.Statement.{statement}
 use Rattle.validity.proofs.labels_of.Tie as tie
 

@@ -6,10 +6,10 @@ use mathlib.Core.Path.{sym, ap, _∙_}
 use mathlib.Core.Bool.{Bool}
 use lib.ListN.{getD}
 use Rattle.quorum.specs.Sets.{has, members}
-use Rattle.quorum.specs.SetLaws.{members-range}
+use Rattle.quorum.proofs.SetLaws.{members-range}
 use Rattle.validity.specs.Marks.{messageMarked}
 use Rattle.validity.specs.RawHall.{sizeAt}
-use Rattle.validity.specs.CodeLaws.{queued-member, queued-other}
+use Rattle.validity.proofs.CodeLaws.{queued-member, queued-other}
 use borrow.Author.Needs.{needs}
 use Rattle.validity.proofs.names_queued.Statement.{statement}
 use Rattle.validity.proofs.names_queued.Tie as tie

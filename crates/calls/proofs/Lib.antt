@@ -1,0 +1,5 @@
+pub mod OpenLaws
+pub mod RunLaw
+pub mod Refused
+pub mod Runs
+pub mod Agreement

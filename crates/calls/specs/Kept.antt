@@ -1,0 +1,27 @@
+-- "A refusal gives its number .., and all lent bytes keep their contents": stated of each call on bytes and of its C form.
+-- `page` is lent bytes to read alone; `hall_page` is lent the hall to read and a slice for its answer.
+-- Assumes nothing.
+use Prim.Native.Nat.{ℕ}
+use mathlib.Core.Path.{_≡_}
+use mathlib.Core.List.{List}
+use Rattle.model.specs.Answers.{Plain, plain}
+use Rattle.model.specs.Opening.{Opening}
+use Rattle.model.specs.Call.{Words}
+use Rattle.calls.specs.Calls.{OpenOutcome, openOn, Outcome, stepOn}
+use Rattle.calls.specs.Lent.{Lent, stepLent, pageLent}
+
+-- a call that returned the number n keeps the lent bytes if it is refused
+abbrev pub Keeps : ℕ → List ℕ → List ℕ → Type 0
+Keeps n before after = (n ≡ 0 → ⊥) → after ≡ before
+
+pub record RefusedKeeps : Type 0 where
+  -- `open`, `hall_open`
+  pub opening : (b : List ℕ) (o : Opening) → Keeps (openOn b o .number) b (openOn b o .bytes)
+  -- `step`
+  pub step : (b : List ℕ) (w : Words) → Keeps (plain (stepOn b w .answer) .number) b (stepOn b w .bytes)
+  -- `hall_step`: the hall's slice and the answer's
+  pub stepHall : (b : List ℕ) (w : Words) (out : List ℕ) → Keeps (stepLent b w out .number) b (stepLent b w out .hall)
+  pub stepAnswer : (b : List ℕ) (w : Words) (out : List ℕ) → Keeps (stepLent b w out .number) out (stepLent b w out .answer)
+  -- `hall_page`
+  pub pageHall : (b : List ℕ) (r k : ℕ) (out : List ℕ) → pageLent b r k out .hall ≡ b
+  pub pageAnswer : (b : List ℕ) (r k : ℕ) (out : List ℕ) → Keeps (pageLent b r k out .number) out (pageLent b r k out .answer)

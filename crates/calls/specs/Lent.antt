@@ -1,0 +1,65 @@
+-- A call that returns its number and writes its answer's values as words into a lent slice. Assumes nothing.
+use Prim.Native.Nat.{ℕ, _+_, _-_, _*_}
+use mathlib.Core.Path.{_≡_}
+use mathlib.Core.Bool.{Bool, true, false}
+use mathlib.Core.List.{List, [], _∷_, _++_}
+use lib.Dec.{eqb, ltb}
+use lib.ListN.{length}
+use lib.Seq.{sets}
+use Rattle.codec.specs.Bytes.{zeros}
+use Rattle.codec.specs.Number.{digits}
+use Rattle.model.specs.Base.{refuse, _⨾_}
+use Rattle.model.specs.Answers.{Plain, plain}
+use Rattle.model.specs.Page.{plainPage}
+use Rattle.model.specs.Call.{Words}
+use Rattle.calls.specs.Calls.{Outcome, stepOn, pageOn}
+
+-- an answer slice has sixteen words of four bytes
+abbrev pub answerLength : ℕ
+answerLength = 64
+
+-- words one after another, little-endian
+unfoldable pub wordsBytes : List ℕ → List ℕ
+wordsBytes [] = []
+wordsBytes (v ∷ vs) = digits 4 v ++ wordsBytes vs
+
+-- the values, then zeros
+unfoldable pub answerBytes : List ℕ → List ℕ
+answerBytes vs = wordsBytes vs ++ zeros (answerLength - 4 * length vs)
+
+-- the slice with an answer's values in its first 64 bytes, its rest as it was
+unfoldable pub withAnswer : List ℕ → List ℕ → List ℕ
+withAnswer out vs = sets out 0 (answerBytes vs)
+
+-- what a call leaves: the number that it returns, the hall's slice and the answer's
+pub record Lent : Type 0 where
+  pub number : ℕ
+  pub hall : List ℕ
+  pub answer : List ℕ
+
+-- "18: the slice to .. write into is too short", last
+unfoldable pub lentNumber : ℕ → List ℕ → ℕ
+lentNumber why out = why ⨾ refuse (ltb (length out) answerLength) 18
+
+-- a call with the plain answer x that leaves the hall's slice as `next`: "all lent bytes keep their contents" if refused
+unfoldable pub lentCall : Plain → List ℕ → List ℕ → List ℕ → Lent
+lentCall x hall next out =
+    let why = lentNumber (x .number) out in
+    elim (eqb why 0) [
+      | true ↦ record { number = 0; hall = next; answer = withAnswer out (x .values) }
+      | false ↦ record { number = why; hall = hall; answer = out }
+    ]
+
+-- a step
+unfoldable pub stepLent : List ℕ → Words → List ℕ → Lent
+stepLent hall w out = let o = stepOn hall w in lentCall (plain (o .answer)) hall (o .bytes) out
+
+-- a page
+unfoldable pub pageLent : List ℕ → ℕ → ℕ → List ℕ → Lent
+pageLent hall r k out = lentCall (plainPage (pageOn hall r k)) hall hall out
+
+-- What a call returns and leaves, number n and slices h and x, is what the definition says.
+pub record Leaves (l : Lent) (n : ℕ) (h x : List ℕ) : Type 0 where
+  pub number : n ≡ l .number
+  pub hall : h ≡ l .hall
+  pub answer : x ≡ l .answer

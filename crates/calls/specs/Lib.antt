@@ -1,0 +1,6 @@
+pub mod Calls
+pub mod ByKind
+pub mod Steps
+pub mod Lent
+pub mod Histories
+pub mod Kept

@@ -1,0 +1,2 @@
+pub mod VoteLaws
+pub mod SetLaws

@@ -1,0 +1,3 @@
+pub mod Learning
+pub mod Receiving
+pub mod Next

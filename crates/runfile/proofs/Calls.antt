@@ -1,0 +1,70 @@
+-- "A reader over the lent file gives one action per call until the trailer." Assumes nothing.
+use Prim.Native.Nat.{ℕ, zero, suc, _+_, _-_, _*_}
+use native.Mathlib.Omega.{arith}
+use native.Mathlib.Nat.{zero-add, suc-add}
+use mathlib.Core.Path.{_≡_, refl, sym, ap, ap₂, _∙_}
+use mathlib.Core.List.{List, [], _∷_, _++_, map}
+use mathlib.Core.Option.{Option, none, some}
+use lib.ListN.{length, drop, replicate}
+use lib.Seq.{drop-drop}
+use Rattle.model.specs.Call.{Words}
+use Rattle.model.specs.RunFile.{blockAt, blocksAt, RunText, trailerOf, runPart, readText, Reading, readFile}
+use Rattle.runfile.specs.declared.RunOpening.{RunOpening}
+use Rattle.runfile.specs.declared.OpenRead.the-variants.{Opened}
+use Rattle.runfile.specs.declared.Next.{Next}
+use Rattle.runfile.specs.declared.Next.the-variants.{Act, End}
+use Rattle.runfile.specs.Answers.{actionWords, opened, nextAt}
+use Rattle.runfile.proofs.Read.{readable, taken, opened-run, next-end, next-act}
+
+-- what a call gives: an action, or none at the end
+abbrev pub got : Next → Option Words
+got (Act x next) = some (actionWords x)
+got End = none
+
+-- the offset of the call after it
+abbrev pub after : ℕ → Next → ℕ
+after at (Act x next) = next
+after at End = at
+
+-- what n calls give, one after the other, the first at an offset
+unfoldable pub calls : ℕ → List ℕ → ℕ → List (Option Words)
+calls zero bs at = []
+calls (suc n) bs at = got (nextAt bs at) ∷ calls n bs (after at (nextAt bs at))
+
+-- where only the trailer is left, every call gives the end
+at-end : (n : ℕ) (bs : List ℕ) (at : ℕ) → at + 16 ≡ length bs → calls n bs at ≡ replicate n none
+unfolding calls
+at-end zero bs at h = refl
+at-end (suc n) bs at h =
+    ap (λ (t : Next). got t ∷ calls n bs (after at t)) (next-end bs at (omega arith))
+    ∙ ap (λ (z : List (Option Words)). none ∷ z) (at-end n bs at h)
+
+-- c actions are left: they are given, and then the end n times
+all-given : (c n : ℕ) (bs : List ℕ) (at : ℕ) → at + 16 * c + 16 ≡ length bs
+    → calls (c + n) bs at ≡ map some (blocksAt c (drop at bs)) ++ replicate n none
+unfolding calls blocksAt
+all-given zero n bs at h = ap (λ (m : ℕ). calls m bs at) (zero-add n) ∙ at-end n bs at (omega arith)
+all-given (suc c) n bs at h =
+    ap (λ (m : ℕ). calls m bs at) (suc-add c n)
+    ∙ ap (λ (t : Next). got t ∷ calls (c + n) bs (after at t)) (next-act bs at (omega arith))
+    ∙ ap (λ (z : List (Option Words)). some (blockAt (drop at bs)) ∷ z)
+    (all-given c n bs (at + 16) (omega arith)
+    ∙ ap (λ (z : List ℕ). map some (blocksAt c z) ++ replicate n none) (sym (drop-drop 16 at bs)))
+
+-- From the opening that reading gives: the calls from its start give the file's actions, and then the end at every
+-- further call.
+pub reads-all : (bs : List ℕ) (x : RunText) (o : RunOpening) → readFile bs ≡ Reading.text x → opened bs (readFile bs) ≡ Opened o
+    → (n : ℕ) → calls (o .count + n) bs (o .start) ≡ map some (x .actions) ++ replicate n none
+unfolding readText runPart
+reads-all bs x o e f n =
+    let t = trailerOf bs in
+    let k = taken bs x e in
+    let g = readable bs (k .sound) in
+    let z : Opened o ≡ Opened (record { size = blockAt (runPart bs) .k; founders = blockAt (runPart bs) .r; start = length bs - t .k + 16; count = t .r }) =
+    sym f ∙ ap (opened bs) (e ∙ ap Reading.text (k .same)) ∙ opened-run bs (k .sound) in
+    let count : o .count ≡ t .r = cc in
+    let start : o .start ≡ length bs - t .k + 16 = cc in
+    ap₂ (λ (c s : ℕ). calls (c + n) bs s) count start
+    ∙ all-given (t .r) n bs (length bs - t .k + 16) (omega (arith, g .trailer .back, g .trailer .inside))
+    ∙ ap (λ (z : List ℕ). map some (blocksAt (t .r) z) ++ replicate n none) (sym (drop-drop 16 (length bs - t .k) bs))
+    ∙ ap (λ (y : RunText). map some (y .actions) ++ replicate n none) (sym (k .same))

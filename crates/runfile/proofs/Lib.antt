@@ -1,0 +1,5 @@
+pub mod Blocks
+pub mod Calls
+pub mod Theorems
+pub mod Read
+pub mod WriteLaws

@@ -1,0 +1,2 @@
+pub mod Denoted
+pub mod Decimal
