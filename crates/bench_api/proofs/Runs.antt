@@ -12,7 +12,8 @@ use Rattle.model.specs.Kinds.{Kind, KindWord, kind, noKind, kindOf}
 use Rattle.model.specs.Call.{Words, wordsOf}
 use Rattle.store.specs.StoredForm.{isStored}
 use Rattle.calls.specs.Calls.{Outcome, stepOn, runOn}
-use Rattle.calls.specs.ByKind.{actOn, give, step-by-kind}
+use Rattle.calls.proofs.ByKindLaws.{actOn, step-by-kind}
+use Rattle.calls.specs.ByKind.{give}
 use Rattle.runfile.specs.Answers.{actionsOf}
 use Rattle.runfile.proofs.WriteLaws.{length-actionsOf, getD-actionsOf}
 

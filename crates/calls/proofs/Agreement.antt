@@ -12,8 +12,9 @@ use lib.ListN.{length, take, drop}
 use lib.Seq.{sets, sets-eq}
 use borrow.Author.Tests.{eqb-true, eqb-false, eq-eqb, ne-eqb, ltb-true, ltb-false, leb-true, leb-false}
 use Rattle.codec.specs.Bytes.{part, zeros}
-use Rattle.codec.specs.Number.{digits, value, value-digits}
-use Rattle.codec.specs.Table.{by-cases}
+use Rattle.codec.specs.Number.{digits, value}
+use Rattle.codec.proofs.NumberLaws.{value-digits}
+use Rattle.codec.proofs.TableLaws.{by-cases}
 use Rattle.model.specs.Hall.{maxRecorders, Entries, Hall}
 use Rattle.model.specs.Answers.{Answer, from, Plain, plain, accepted}
 use Rattle.model.specs.Refusals.{orderAt}

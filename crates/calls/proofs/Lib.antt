@@ -3,3 +3,4 @@ pub mod RunLaw
 pub mod Refused
 pub mod Runs
 pub mod Agreement
+pub mod ByKindLaws

@@ -5,7 +5,7 @@ use mathlib.Core.Bool.{Bool, true, false}
 use mathlib.Core.List.{List}
 use lib.Dec.{eqb}
 use borrow.Author.Tests.{eqb-true, eqb-false, eq-eqb, ne-eqb}
-use Rattle.codec.specs.Table.{by-cases}
+use Rattle.codec.proofs.TableLaws.{by-cases}
 use Rattle.model.specs.Base.{_⨾_}
 use Rattle.model.specs.Opening.{Opening, openRefusal, opened}
 use Rattle.model.proofs.Agreement.Chains.{chain-none}

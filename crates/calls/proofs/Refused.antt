@@ -6,7 +6,7 @@ use mathlib.Core.List.{List}
 use lib.Dec.{eqb, ltb}
 use lib.ListN.{length}
 use borrow.Author.Tests.{ne-eqb, eqb-true, eqb-false, lt-ltb, le-ltb}
-use Rattle.codec.specs.Table.{by-cases}
+use Rattle.codec.proofs.TableLaws.{by-cases}
 use Rattle.model.specs.Base.{refuse, _⨾_}
 use Rattle.model.specs.Hall.{Hall}
 use Rattle.model.specs.Kinds.{Kind, submit, label, sendEntry, sendSummary, form, enter, order, receive, notice, confirm, deliver, KindWord, kind, noKind, kindOf, inputRefusal}
@@ -19,7 +19,8 @@ use Rattle.model.specs.Page.{PageAnswer, plainPage}
 use Rattle.model.specs.Call.{Words, hl3, Stored, hall, call}
 use Rattle.store.specs.StoredForm.{hallOf, isStored}
 use Rattle.calls.specs.Calls.{withHall, OpenOutcome, openOn, Outcome, stepOn, pageOn}
-use Rattle.calls.specs.ByKind.{kindOn, actOn, give, step-by-kind}
+use Rattle.calls.specs.ByKind.{kindOn, give}
+use Rattle.calls.proofs.ByKindLaws.{actOn, step-by-kind}
 use Rattle.calls.proofs.OpenLaws.{open-refused, open-taken}
 use Rattle.calls.specs.Kept.{Keeps, RefusedKeeps}
 use Rattle.calls.specs.Lent.{answerLength, withAnswer, Lent, lentNumber, lentCall, stepLent, pageLent, Leaves}

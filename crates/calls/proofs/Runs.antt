@@ -19,8 +19,9 @@ use Rattle.model.proofs.Agreement.Tools.{and-both}
 use Rattle.model.proofs.Agreement.Theorem.{hl3-agreement}
 use Rattle.store.specs.Layout.{storedLength}
 use Rattle.store.specs.Valid.{ValidHall}
-use Rattle.store.specs.StoredForm.{stored, hallOf, hallOf-stored}
-use Rattle.store.specs.KeepValid.{step-valid, run-valid, open-valid}
+use Rattle.store.specs.StoredForm.{stored, hallOf}
+use Rattle.store.proofs.StoredFormLaws.{hallOf-stored}
+use Rattle.store.proofs.KeepValid.{step-valid, run-valid, open-valid}
 use Rattle.calls.specs.Calls.{withHall, stepOn, openOn}
 use Rattle.calls.specs.Histories.{Made, gathered, historyOf}
 use Rattle.calls.proofs.OpenLaws.{open-done}

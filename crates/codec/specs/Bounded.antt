@@ -1,45 +1,19 @@
 -- Bounded lists: a count, then a fixed number of places, of which those past the count are all zero bytes.
 -- Assumes nothing.
-use Prim.Native.Nat.{ℕ, suc, _+_, _-_, _*_, _%_, _≤_, _<_}
-use native.Mathlib.Omega.{arith}
-use native.Mathlib.Nat.{not-suc-le-zero, le-of-suc-le-suc}
-use mathlib.Core.Path.{_≡_, refl, sym, ap, ap₂, _∙_}
-use mathlib.Core.Bool.{Bool, _&&_}
-use mathlib.Core.List.{List, [], _∷_, _++_, append-assoc}
+use Prim.Native.Nat.{ℕ, _+_, _*_, _≤_}
+use mathlib.Core.Bool.{Bool}
+use mathlib.Core.List.{List, [], _∷_}
 use mathlib.Core.Option.{Option, none, some}
-use lib.Dec.{leb, leb·zero, lit<, lit≤}
-use lib.ListN.{length, getD, take, drop, set, length-append, length-take, length-drop, length-set, length-replicate, replicate-append-replicate}
-use lib.Seq.{sets}
-use Rattle.codec.specs.Bytes.{zeros, allZero, sets-between}
-use Rattle.codec.specs.Form.{Form, Lawful, Inverse, mapped, mapped-lawful}
-use Rattle.codec.specs.Number.{number, byte, byte-lawful, digits, value, between}
-use Rattle.codec.specs.Pair.{given, given-lawful}
+use lib.ListN.{length}
+use Rattle.codec.specs.Form.{Form, mapped}
+use Rattle.codec.specs.Number.{byte}
+use Rattle.codec.specs.Pair.{given}
 use Rattle.base.specs.Lists.{Each}
-use Rattle.codec.specs.Cells.{suc-cells, Each-append, Each-take, Each-drop, Each-set, encodeAll, encodeAll-append, encodeAll-cons, encodeAll-nil, validAll, decodeAll, cells, cells-lawful, block-encodeAll}
-use Rattle.codec.specs.Piece.{View, Piece, head, tail, cell, inner, mapped-view, mapped-piece, restated, whatever}
+use Rattle.codec.specs.Cells.{cells}
 
 -- at most cap elements, each with P. These are the bounds of a list of any capacity.
 abbrev pub Within : {A : Type 0} → (A → Type 0) → ℕ → List A → Type 0
 Within P cap xs = (length xs ≤ cap) × Each P xs
-
-module _ {A : Type 0} (P : A → Type 0) (cap : ℕ) where
-  pub within-nil : Within P cap []
-  within-nil = (omega arith, tt)
-
-  pub within-push : (xs : List A) (x : A) → length xs < cap → Each P xs → P x → Within P cap (xs ++ (x ∷ []))
-  within-push xs x h a p = (simp length-append (omega arith), Each-append P xs (x ∷ []) a (p, tt))
-
-  pub within-append : (xs ys : List A) → length xs + length ys ≤ cap → Each P xs → Each P ys → Within P cap (xs ++ ys)
-  within-append xs ys h a b = (simp length-append h, Each-append P xs ys a b)
-
-  pub within-take : (i : ℕ) (xs : List A) → Within P cap xs → Within P cap (take i xs)
-  within-take i xs w = (simp length-take (omega (arith, w .0)), Each-take P i xs (w .1))
-
-  pub within-drop : (i : ℕ) (xs : List A) → Within P cap xs → Within P cap (drop i xs)
-  within-drop i xs w = (simp length-drop (omega (arith, w .0)), Each-drop P i xs (w .1))
-
-  pub within-set : (xs : List A) (i : ℕ) (x : A) → Within P cap xs → P x → Within P cap (set xs i x)
-  within-set xs i x w p = (simp length-set (w .0), Each-set P xs i x (w .1) p)
 
 module _ {A : Type 0} {k : ℕ} (F : Form A k) (cap : ℕ) where
   -- the count, and the cells that it says are in use
@@ -50,127 +24,19 @@ module _ {A : Type 0} {k : ℕ} (F : Form A k) (cap : ℕ) where
   unfoldable pub bounded : Form (List A) (1 + cap * k)
   bounded = mapped counted (λ p. p .1) (λ xs. (length xs, xs)) (Within (F .ok) cap)
 
-  counts : Inverse counted (λ p. p .1) (λ xs. (length xs, xs)) (Within (F .ok) cap)
-  unfolding given number cells
-  counts =
-      record {
-        to-ok = λ p h. (omega (arith, h .0 .1, h .1 .0), h .1 .1);
-        from-ok = λ xs h. ((omega arith, h .0), (refl, h .1));
-        to-from = λ xs h. refl;
-        from-to = λ p h. λ i. (h .1 .0 i, p .1);
-      }
-
-  -- the bytes of a list
-  pub bounded-encode : (xs : List A) → length xs < 256
-      → bounded .encode xs ≡ length xs ∷ (encodeAll F xs ++ zeros ((cap - length xs) * k))
-  unfolding bounded mapped given number cells digits
-  bounded-encode xs l =
-      let e : (length xs - 0) % 256 ≡ length xs = omega arith in
-      ap (λ (z : ℕ). z ∷ (encodeAll F xs ++ zeros ((cap - length xs) * k))) e
-
-  -- the test, on the count c and the bytes b of the places
-  pub bounded-valid : (c : ℕ) (b : List ℕ)
-      → bounded .valid (c ∷ b) ≡ leb c cap && (validAll F c b && allZero (drop (c * k) b))
-  unfolding bounded mapped given number cells value
-  bounded-valid c b =
-      let e : c + 0 + 0 ≡ c = omega arith in
-      ap (λ (z : ℕ). between 0 cap z && (validAll F z b && allZero (drop (z * k) b))) e
-      ∙ ap (λ (t : Bool). (t && leb c cap) && (validAll F c b && allZero (drop (c * k) b))) (leb·zero c)
-
-  -- and the list that they hold
-  pub bounded-decode : (c : ℕ) (b : List ℕ) → bounded .decode (c ∷ b) ≡ decodeAll F c b
-  unfolding bounded mapped given number cells value
-  bounded-decode c b =
-      let e : c + 0 + 0 ≡ c = omega arith in
-      ap (λ (z : ℕ). decodeAll F z b) e
-
-  module _ (L : Lawful F) (h : cap < 256) where
-    pub bounded-lawful : Lawful bounded
-    unfolding bounded number
-    bounded-lawful =
-        mapped-lawful counted (λ p. p .1) (λ xs. (length xs, xs)) (Within (F .ok) cap)
-        (given-lawful (byte 0 cap) (λ m. cells F m cap) (byte-lawful 0 cap h) (λ m r. cells-lawful F L m cap (r .1)))
-        counts
-
-    -- the count stands first
-    pub bounded-count : View bounded (byte 0 cap) 0 (λ xs. Unit {0}) length
-    unfolding bounded
-    bounded-count =
-        mapped-view (λ p. p .1) (λ xs. (length xs, xs)) (Within (F .ok) cap) counts (head (byte 0 cap) (λ m. cells F m cap))
-
-    -- and then element i
-    pub bounded-cell : (i : ℕ) (d : A) → Piece bounded F (1 + i * k) (λ xs. i < length xs) (λ xs. getD xs i d) (λ xs x. set xs i x)
-    unfolding bounded
-    bounded-cell i d = whatever length (λ m. i < m) at
-      where
-        at : (m : ℕ) → i < m → Piece bounded F (1 + i * k) (λ xs. length xs ≡ m) (λ xs. getD xs i d) (λ xs x. set xs i x)
-        at m j =
-            restated
-            (mapped-piece (λ p. p .1) (λ xs. (length xs, xs)) (Within (F .ok) cap) counts
-            (inner (tail (byte 0 cap) (λ m. cells F m cap) (byte-lawful 0 cap h) m) (cell F L m cap i d j)))
-            (λ xs. length xs ≡ m) (λ xs. getD xs i d) (λ xs x. set xs i x) (λ xs o e. (e, tt)) (λ xs o e. refl) (λ xs x o e g. refl)
-
-    -- to append x below the capacity is to write it past the last element, and the count
-    pub bounded-push : (xs : List A) (x : A) → Within (F .ok) cap xs → length xs < cap → F .ok x
-        → bounded .encode (xs ++ (x ∷ []))
-        ≡ sets (sets (bounded .encode xs) (1 + length xs * k) (F .encode x)) 0 ((length xs + 1) ∷ [])
-    bounded-push xs x w r o =
-        let c = length xs in
-        let e = encodeAll F xs in
-        let z : ℕ = (cap - (c + 1)) * k in
-        let longer : length (xs ++ (x ∷ [])) ≡ c + 1 = length-append xs (x ∷ []) in
-        let less : cap - c ≡ suc (cap - (c + 1)) = omega arith in
-        let room : zeros ((cap - c) * k) ≡ zeros k ++ zeros z =
-        ap zeros (ap (λ (n : ℕ). n * k) less ∙ suc-cells (cap - (c + 1)) k) ∙ sym (replicate-append-replicate k z 0) in
-        let old : bounded .encode xs ≡ (c ∷ e) ++ (zeros k ++ zeros z) =
-        bounded-encode xs (omega arith) ∙ ap (λ (y : List ℕ). c ∷ (e ++ y)) room in
-        let offset : length (c ∷ e) ≡ 1 + c * k = omega (arith, block-encodeAll F L xs (w .1) .len) in
-        let new : bounded .encode (xs ++ (x ∷ [])) ≡ (c + 1) ∷ (e ++ (F .encode x ++ zeros z)) =
-        bounded-encode (xs ++ (x ∷ [])) (omega (arith, longer))
-        ∙ ap₂ (λ (n : ℕ) (y : List ℕ). n ∷ y) longer
-        (ap (λ (n : ℕ). encodeAll F (xs ++ (x ∷ [])) ++ zeros ((cap - n) * k)) longer
-        ∙ simp (encodeAll-append, encodeAll-cons, append-assoc, encodeAll-nil)) in
-        new
-        ∙ sym (ap (λ (y : List ℕ). sets (sets y (1 + c * k) (F .encode x)) 0 ((c + 1) ∷ [])) old
-        ∙ ap (λ (y : List ℕ). sets y 0 ((c + 1) ∷ []))
-        (sets-between (c ∷ e) (zeros k) (zeros z) (1 + c * k) k offset (length-replicate k 0) (F .encode x) (L .stored x o .len)))
-
 -- a value or none: a list of at most one
 module _ {A : Type 0} {k : ℕ} (F : Form A k) where
   abbrev pub Maybe : Option A → Type 0
   Maybe none = Unit {0}
   Maybe (some a) = F .ok a
 
-  abbrev toOption : List A → Option A
+  abbrev pub toOption : List A → Option A
   toOption [] = none
   toOption (x ∷ xs) = some x
 
-  abbrev fromOption : Option A → List A
+  abbrev pub fromOption : Option A → List A
   fromOption none = []
   fromOption (some a) = a ∷ []
 
   unfoldable pub optional : Form (Option A) (1 + 1 * k)
   optional = mapped (bounded F 1) toOption fromOption Maybe
-
-  pub optional-lawful : Lawful F → Lawful optional
-  unfolding optional bounded mapped
-  optional-lawful L =
-      mapped-lawful (bounded F 1) toOption fromOption Maybe (bounded-lawful F 1 L (lit< tt))
-      (record { to-ok = range; from-ok = within; to-from = same; from-to = again })
-    where
-      range : (xs : List A) → Within (F .ok) 1 xs → Maybe (toOption xs)
-      range [] w = tt
-      range (x ∷ xs) w = w .1 .0
-
-      within : (m : Option A) → Maybe m → Within (F .ok) 1 (fromOption m)
-      within none h = (lit≤ tt, tt)
-      within (some a) h = (lit≤ tt, (h, tt))
-
-      same : (m : Option A) → Maybe m → toOption (fromOption m) ≡ m
-      same none h = refl
-      same (some a) h = refl
-
-      again : (xs : List A) → Within (F .ok) 1 xs → fromOption (toOption xs) ≡ xs
-      again [] w = refl
-      again (x ∷ []) w = refl
-      again (x ∷ y ∷ xs) w = absurd (not-suc-le-zero (le-of-suc-le-suc (w .0)))

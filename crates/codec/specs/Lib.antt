@@ -3,9 +3,7 @@ pub mod Form
 pub mod Number
 pub mod Pair
 pub mod Cells
-pub mod Piece
 pub mod Bounded
-pub mod Blank
 pub mod Table
 pub mod ByteList
 pub mod Slice

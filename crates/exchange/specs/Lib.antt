@@ -1,6 +1,4 @@
 pub mod Rows
-pub mod Lists
 pub mod Sources
 pub mod Labels
-pub mod Full
 pub mod Built

@@ -1,2 +1,7 @@
 pub mod Keys
 pub mod ReadsLaws
+pub mod Writes
+pub mod AtRecorderLaws
+pub mod Changing
+pub mod ActsLaws
+pub mod Changes

@@ -6,14 +6,15 @@ use mathlib.Core.Bool.{Bool, true, false}
 use mathlib.Core.List.{List, [], _++_, append-nil}
 use lib.ListN.{length, take, drop, drop-of-length-le}
 use lib.Seq.{sets, sets-eq, length-take-le}
-use Rattle.codec.specs.Table.{by-cases}
+use Rattle.codec.proofs.TableLaws.{by-cases}
 use Rattle.model.specs.Hall.{Hall}
 use Rattle.model.specs.Kinds.{Kind, KindWord}
 use Rattle.model.specs.Answers.{Content, Answer, message, refused, Plain, plain}
 use Rattle.model.specs.Page.{PageAnswer, plainPage}
 use Rattle.model.specs.Call.{Words, hl3, Stored, hall, broken, call}
 use Rattle.store.specs.Layout.{storedLength}
-use Rattle.store.specs.StoredForm.{hallOf, isStored, isStored-long, isStored-first, hallOf-first}
+use Rattle.store.specs.StoredForm.{hallOf, isStored}
+use Rattle.store.proofs.StoredFormLaws.{isStored-long, isStored-first, hallOf-first}
 use Rattle.calls.specs.Calls.{held, Outcome, stepOn}
 use Rattle.calls.specs.ByKind.{give}
 use Rattle.calls.specs.Lent.{Lent}

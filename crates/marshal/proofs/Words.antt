@@ -6,8 +6,10 @@ use mathlib.Core.Path.{_≡_, refl, sym, ap, ap₂, _∙_}
 use mathlib.Core.List.{List, [], _∷_, _++_, append-assoc, append-nil}
 use lib.ListN.{length, take, getD, length-append}
 use lib.Seq.{sets, take-suc, take-all, length-take-le}
-use Rattle.codec.specs.Bytes.{zeros, sets-append}
-use Rattle.codec.specs.Number.{digits, block-digits}
+use Rattle.codec.specs.Bytes.{zeros}
+use Rattle.codec.proofs.BytesLaws.{sets-append}
+use Rattle.codec.specs.Number.{digits}
+use Rattle.codec.proofs.NumberLaws.{block-digits}
 use Rattle.calls.specs.Lent.{answerLength, wordsBytes, answerBytes, withAnswer}
 
 pub length-words : (vs : List ℕ) → length (wordsBytes vs) ≡ 4 * length vs

@@ -1,1 +1,4 @@
 pub mod Acting
+pub mod MembersLaws
+pub mod ContentsLaws
+pub mod CurrentLaws

@@ -1,2 +1,1 @@
-pub mod Openings
 pub mod Opened

@@ -1,7 +1,5 @@
-pub mod Chain
 pub mod Entries
 pub mod Flags
-pub mod Lists
 pub mod Messages
 pub mod Numbers
 pub mod Places

@@ -1,4 +1,2 @@
-pub mod Parts
-pub mod Loops
 pub mod CellParts
 pub mod TableParts

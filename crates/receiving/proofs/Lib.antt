@@ -1,3 +1,4 @@
 pub mod Learning
 pub mod Receiving
 pub mod Next
+pub mod ValuesLaws

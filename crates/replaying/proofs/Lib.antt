@@ -1,2 +1,8 @@
 pub mod Runs
 pub mod Whole
+pub mod GoingLaws
+pub mod Numbers
+pub mod Longest
+pub mod FilesLaws
+pub mod Steps
+pub mod LinesLaws

@@ -1,3 +1,4 @@
 pub mod Summary
 pub mod Both
 pub mod Entry
+pub mod ValuesLaws

@@ -1,1 +1,2 @@
 pub mod Dispatch
+pub mod StepsLaws

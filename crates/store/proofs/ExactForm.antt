@@ -7,7 +7,8 @@ use lib.ListN.{take, drop, take-append-drop}
 use Rattle.model.specs.Hall.{Hall}
 use Rattle.store.specs.Layout.{storedLength}
 use Rattle.store.specs.Valid.{ValidHall}
-use Rattle.store.specs.StoredForm.{stored, hallOf, isStored, stored-isStored, hallOf-stored, hallOf-valid, stored-hallOf}
+use Rattle.store.specs.StoredForm.{stored, hallOf, isStored}
+use Rattle.store.proofs.StoredFormLaws.{stored-isStored, hallOf-stored, hallOf-valid, stored-hallOf}
 use Rattle.store.specs.Exact.{Begun, SomeBegun, StoredExactly}
 
 -- the form, then the rest of the slice

@@ -5,3 +5,16 @@ pub mod Access
 pub mod Growth
 pub mod Messages
 pub mod ExactForm
+pub mod HallFormLaws
+pub mod MasksLaws
+pub mod HallOk
+pub mod KeepRules
+pub mod StoredFormLaws
+pub mod KeepEntries
+pub mod ViewFormLaws
+pub mod KeepValid
+pub mod Ranges
+pub mod KeepMoves
+pub mod KeepFacts
+pub mod KeepParts
+pub mod CellFormsLaws

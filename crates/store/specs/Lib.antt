@@ -1,16 +1,8 @@
 pub mod CellForms
 pub mod Cells
 pub mod HallForm
-pub mod HallOk
-pub mod KeepEntries
-pub mod KeepFacts
-pub mod KeepMoves
-pub mod KeepParts
-pub mod KeepRules
-pub mod KeepValid
 pub mod Layout
 pub mod Masks
-pub mod Ranges
 pub mod StoredForm
 pub mod Valid
 pub mod ViewForm

@@ -1,2 +1,4 @@
 pub mod Denoted
 pub mod Decimal
+pub mod TextLaws
+pub mod FieldsLaws

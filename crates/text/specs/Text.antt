@@ -1,12 +1,10 @@
 -- Text written at an offset of a buffer, piece by piece; and its length.
 -- Assumes nothing.
 use Prim.Native.Nat.{ℕ, _+_, _≤_}
-use native.Mathlib.Omega.{arith}
-use mathlib.Core.Path.{_≡_, refl, sym, ap, ap₂, _∙_}
-use mathlib.Core.List.{List, [], _∷_, _++_}
-use lib.ListN.{length, set, length-append}
-use lib.Seq.{sets, length-sets}
-use Rattle.codec.specs.Bytes.{sets-append}
+use mathlib.Core.Path.{_≡_}
+use mathlib.Core.List.{List}
+use lib.ListN.{length}
+use lib.Seq.{sets}
 
 -- the text xs has room in b at the offset o
 pub record Room (b : List ℕ) (o : ℕ) (xs : List ℕ) : Type 0 where
@@ -21,18 +19,3 @@ pub record Wrote (b : List ℕ) (o : ℕ) (xs a : List ℕ) (n : ℕ) : Type 0 w
 pub record Sized (xs : List ℕ) (max n : ℕ) : Type 0 where
   pub is : n ≡ length xs
   pub within : n ≤ max
-
-pub wrote-length : {b xs a : List ℕ} {o n : ℕ} → Wrote b o xs a n → length a ≡ length b
-wrote-length w = ap length (w .bytes) ∙ simp length-sets
-
--- one byte
-pub wrote-one : (b : List ℕ) (o x : ℕ) → Wrote b o (x ∷ []) (set b o x) (o + 1)
-wrote-one b o x = record { bytes = refl; next = refl }
-
--- two pieces, one after the other
-pub then : {b xs m ys a : List ℕ} {o i n : ℕ} → Wrote b o xs m i → Wrote m i ys a n → Wrote b o (xs ++ ys) a n
-then {b} {xs} {m} {ys} {o} v w =
-    record {
-      bytes = w .bytes ∙ ap₂ (λ (l : List ℕ) (k : ℕ). sets l k ys) (v .bytes) (v .next) ∙ sym (sets-append b o xs ys);
-      next = omega (arith, v .next, w .next, length-append xs ys);
-    }

@@ -1,1 +1,7 @@
 pub mod CodeLaws
+pub mod CrossPartsLaws
+pub mod RawCells
+pub mod MarksLaws
+pub mod RawHallLaws
+pub mod AllsLaws
+pub mod Values

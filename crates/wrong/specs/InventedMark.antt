@@ -9,8 +9,8 @@ use Rattle.model.specs.Call.{hl3, Stored, hall, broken, call}
 use Rattle.model.specs.WrongHalls.{Engine}
 use Rattle.model.proofs.Agreement.Tools.{upd-at}
 use Rattle.store.specs.Valid.{ValidHall}
-use Rattle.store.specs.KeepFacts.{Between, Outside, not-outside}
-use Rattle.store.specs.KeepRules.{facts-of, valid-of}
+use Rattle.store.proofs.KeepFacts.{Between, Outside, not-outside}
+use Rattle.store.proofs.KeepRules.{facts-of, valid-of}
 use Rattle.wrong.specs.Programs.{IsValid}
 
 unfoldable pub markTwo : Hall → Hall

@@ -13,7 +13,8 @@ use Rattle.model.specs.Call.{Words, hl3, Stored, hall, broken, Called, call, Wo
 use Rattle.model.specs.WrongHalls.{Engine, pageSeen, seen}
 use Rattle.store.specs.Layout.{storedLength}
 use Rattle.store.specs.Valid.{ValidHall}
-use Rattle.store.specs.StoredForm.{stored, hallOf, stored-isStored, hallOf-stored}
+use Rattle.store.specs.StoredForm.{stored, hallOf}
+use Rattle.store.proofs.StoredFormLaws.{stored-isStored, hallOf-stored}
 use Rattle.calls.specs.Calls.{held, withHall, withStored, Outcome, pageOn, stepOn}
 
 -- anything that answers calls on lent bytes

@@ -22,7 +22,7 @@ use Rattle.store.specs.Layout.{storedLength}
 use Rattle.store.specs.Valid.{ValidHall}
 use Rattle.store.specs.StoredForm.{stored}
 use Rattle.base.specs.Lists.{Each}
-use Rattle.store.specs.KeepValid.{step-valid, open-valid}
+use Rattle.store.proofs.KeepValid.{step-valid, open-valid}
 use Rattle.calls.specs.Calls.{withHall, stepOn, openNumber, openOn}
 use Rattle.calls.proofs.OpenLaws.{open-taken}
 use Rattle.wrong.specs.Programs.{onBytes, step-on-bytes, seenOn, IsValid, Keeps, seen-stored}

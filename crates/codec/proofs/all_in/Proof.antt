@@ -4,7 +4,8 @@ use denote.Ref.{now}
 use Prim.Native.Nat.{_-_, _≤_}
 use mathlib.Core.Path.{_≡_, refl, sym, _∙_}
 use Rattle.codec.specs.Bytes.{part}
-use Rattle.codec.specs.ByteList.{allIn, allIn-none, allIn-below, allIn-above, allIn-next}
+use Rattle.codec.specs.ByteList.{allIn}
+use Rattle.codec.proofs.ByteListLaws.{allIn-none, allIn-below, allIn-above, allIn-next}
 use Rattle.codec.proofs.all_in.Statement.{statement}
 use Rattle.codec.proofs.all_in.Tie as tie
 

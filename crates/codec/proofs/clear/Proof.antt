@@ -6,7 +6,8 @@ use native.Mathlib.Omega.{arith}
 use mathlib.Core.Path.{_≡_, ap, sym, _∙_}
 use lib.ListN.{length}
 use lib.Seq.{sets, length-sets}
-use Rattle.codec.specs.Bytes.{zeros, clear-step}
+use Rattle.codec.specs.Bytes.{zeros}
+use Rattle.codec.proofs.BytesLaws.{clear-step}
 use Rattle.codec.proofs.clear.Statement.{statement}
 use Rattle.codec.proofs.clear.Tie as tie
 

@@ -2,7 +2,7 @@
 use borrow.Author.Needs.{needs}
 use mathlib.Core.Path.{sym}
 use denote.Ref.{now}
-use Rattle.codec.specs.Number.{value-byte}
+use Rattle.codec.proofs.NumberLaws.{value-byte}
 use Rattle.codec.proofs.get_byte.Statement.{statement}
 use Rattle.codec.proofs.get_byte.Tie as tie
 

@@ -5,7 +5,8 @@ use Prim.Native.Nat.{ℕ, _+_, _-_, _≤_}
 use native.Mathlib.Omega.{arith}
 use mathlib.Core.Path.{_≡_, refl, subst, _∙_}
 use lib.ListN.{length, getD, take, length-set}
-use Rattle.codec.specs.Bytes.{part, get-step}
+use Rattle.codec.specs.Bytes.{part}
+use Rattle.codec.proofs.BytesLaws.{get-step}
 use Rattle.codec.proofs.get_list.Statement.{statement}
 use Rattle.codec.proofs.get_list.Tie as tie
 

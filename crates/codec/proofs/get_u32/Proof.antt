@@ -2,7 +2,7 @@
 use borrow.Author.Needs.{needs}
 use native.Mathlib.Omega.{arith}
 use denote.Ref.{now}
-use Rattle.codec.specs.Number.{value-four}
+use Rattle.codec.proofs.NumberLaws.{value-four}
 use Rattle.codec.proofs.get_u32.Statement.{statement}
 use Rattle.codec.proofs.get_u32.Tie as tie
 

@@ -9,7 +9,8 @@ use lib.Dec.{eqb}
 use lib.ListN.{getD}
 use lib.Bits.{bitOr, or-add-and, and-le-l, and-le-r}
 use borrow.Author.Tests.{eqb-true, eqb-false, eq-eqb, ne-eqb}
-use Rattle.codec.specs.Bytes.{part, allZero, allZero-step}
+use Rattle.codec.specs.Bytes.{part, allZero}
+use Rattle.codec.proofs.BytesLaws.{allZero-step}
 use Rattle.codec.proofs.is_zero.Statement.{statement}
 use Rattle.codec.proofs.is_zero.Tie as tie
 

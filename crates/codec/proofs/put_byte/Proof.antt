@@ -5,7 +5,7 @@ use mathlib.Core.List.{List}
 use Prim.Native.Nat.{ℕ}
 use lib.Seq.{sets}
 use denote.Ref.{now}
-use Rattle.codec.specs.Number.{digits-byte}
+use Rattle.codec.proofs.NumberLaws.{digits-byte}
 use Rattle.codec.proofs.put_byte.Statement.{statement}
 use Rattle.codec.proofs.put_byte.Tie as tie
 

@@ -6,7 +6,7 @@ use native.Mathlib.Omega.{arith}
 use mathlib.Core.Path.{_≡_, ap, _∙_}
 use lib.ListN.{length, take}
 use lib.Seq.{sets, length-sets}
-use Rattle.codec.specs.Bytes.{put-step}
+use Rattle.codec.proofs.BytesLaws.{put-step}
 use Rattle.codec.proofs.put_bytes.Statement.{statement}
 use Rattle.codec.proofs.put_bytes.Tie as tie
 

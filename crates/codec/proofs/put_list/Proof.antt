@@ -7,10 +7,11 @@ use mathlib.Core.List.{List}
 use lib.ListN.{length, length-set, length-take}
 use lib.Seq.{sets}
 use Rattle.codec.specs.Bytes.{zeros}
-use Rattle.codec.specs.ByteList.{items, write-list}
-use borrow.Author.Needs.{needs}
+use Rattle.codec.specs.ByteList.{items}
+use Rattle.codec.proofs.ByteListLaws.{write-list}
 use Rattle.codec.proofs.put_list.Statement.{statement}
 use Rattle.codec.proofs.put_list.Tie as tie
+use borrow.Author.Needs.{needs}
 
 add-from : tie.Need-add-from
 add-from c = search needs

@@ -3,7 +3,7 @@ use borrow.Author.Needs.{needs}
 use native.Mathlib.Omega.{arith}
 use lib.ListN.{length-set}
 use denote.Ref.{now}
-use Rattle.codec.specs.Bytes.{sets-four}
+use Rattle.codec.proofs.BytesLaws.{sets-four}
 use Rattle.codec.specs.Number.{digits}
 use Rattle.codec.proofs.put_u32.Statement.{statement}
 use Rattle.codec.proofs.put_u32.Tie as tie

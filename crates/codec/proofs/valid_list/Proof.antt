@@ -6,10 +6,10 @@ use mathlib.Core.Path.{refl, ap, sym, _∙_}
 use mathlib.Core.Bool.{Bool, _&&_}
 use lib.ListN.{getD}
 use Rattle.codec.specs.Bytes.{part, allZero}
-use Rattle.codec.specs.ByteList.{valid-list, valid-list-over}
-use borrow.Author.Needs.{needs}
+use Rattle.codec.proofs.ByteListLaws.{valid-list, valid-list-over}
 use Rattle.codec.proofs.valid_list.Statement.{statement}
 use Rattle.codec.proofs.valid_list.Tie as tie
+use borrow.Author.Needs.{needs}
 
 shared-slice-read-n : tie.Need-shared-slice-read-n
 shared-slice-read-n c = search needs

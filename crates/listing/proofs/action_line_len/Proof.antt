@@ -1,10 +1,10 @@
 -- The place, the kind, then the answer. Assumes nothing.
 use native.Mathlib.Omega.{arith}
 use Rattle.answer.specs.Meaning.{meaning}
-use Rattle.listing.specs.Lines.{length-action}
-use borrow.Author.Needs.{needs}
+use Rattle.listing.proofs.LinesLaws.{length-action}
 use Rattle.listing.proofs.action_line_len.Statement.{statement}
 use Rattle.listing.proofs.action_line_len.Tie as tie
+use borrow.Author.Needs.{needs}
 
 decimal-len-requires : tie.Need-decimal-len-requires
 decimal-len-requires c κs = search needs

@@ -3,10 +3,10 @@ use native.Mathlib.Omega.{arith}
 use mathlib.Core.List.{[], _∷_}
 use Rattle.answer.specs.Meaning.{meaning}
 use Rattle.model.specs.Listing.{decimal, answerFields, ok-word, from-word, refused-word}
-use Rattle.text.specs.Fields.{length-fields, length-close}
-use borrow.Author.Needs.{needs}
+use Rattle.text.proofs.FieldsLaws.{length-fields, length-close}
 use Rattle.listing.proofs.answer_len.Statement.{statement}
 use Rattle.listing.proofs.answer_len.Tie as tie
+use borrow.Author.Needs.{needs}
 
 enum-told : tie.Need-enum-told
 enum-told c = search needs

@@ -2,10 +2,10 @@
 use native.Mathlib.Omega.{arith}
 use mathlib.Core.List.{[], _∷_}
 use Rattle.model.specs.Listing.{decimal, end-word, endLine}
-use Rattle.text.specs.Fields.{length-line}
-use borrow.Author.Needs.{needs}
+use Rattle.text.proofs.FieldsLaws.{length-line}
 use Rattle.listing.proofs.end_line_len.Statement.{statement}
 use Rattle.listing.proofs.end_line_len.Tie as tie
+use borrow.Author.Needs.{needs}
 
 last-two-len-requires : tie.Need-last-two-len-requires
 last-two-len-requires c κs = search needs

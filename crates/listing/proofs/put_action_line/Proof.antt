@@ -1,12 +1,12 @@
 -- The place, the kind, then the answer. Assumes nothing.
 use native.Mathlib.Omega.{arith}
 use Rattle.answer.specs.Meaning.{meaning}
-use Rattle.text.specs.Text.{then}
-use Rattle.listing.specs.Lines.{length-action}
+use Rattle.text.proofs.TextLaws.{then}
+use Rattle.listing.proofs.LinesLaws.{length-action}
 use Rattle.model.specs.Listing.{fieldsAfter, line, actionLine}
-use borrow.Author.Needs.{needs}
 use Rattle.listing.proofs.put_action_line.Statement.{statement}
 use Rattle.listing.proofs.put_action_line.Tie as tie
+use borrow.Author.Needs.{needs}
 
 put-decimal-requires : tie.Need-put-decimal-requires
 put-decimal-requires c κs = let a = c .before .before .args in record { fits = omega (arith, length-action (a .place) (a .kind) (meaning (a .a))) }

@@ -1,12 +1,12 @@
 -- The word, then the two counts. Assumes nothing.
 use native.Mathlib.Omega.{arith}
 use mathlib.Core.List.{[], _∷_}
-use Rattle.text.specs.Text.{then}
-use Rattle.text.specs.Fields.{length-line}
+use Rattle.text.proofs.TextLaws.{then}
+use Rattle.text.proofs.FieldsLaws.{length-line}
 use Rattle.model.specs.Listing.{decimal, line, endLine, end-word}
-use borrow.Author.Needs.{needs}
 use Rattle.listing.proofs.put_end_line.Statement.{statement}
 use Rattle.listing.proofs.put_end_line.Tie as tie
+use borrow.Author.Needs.{needs}
 
 slice-aggregate-put-word : tie.Need-slice-aggregate-put-word
 slice-aggregate-put-word c = search needs

@@ -1,11 +1,11 @@
 -- The word, then the five numbers. Assumes nothing.
 use native.Mathlib.Omega.{arith}
-use Rattle.text.specs.Text.{then}
-use Rattle.listing.specs.Lines.{length-summary}
+use Rattle.text.proofs.TextLaws.{then}
+use Rattle.listing.proofs.LinesLaws.{length-summary}
 use Rattle.model.specs.Listing.{fieldsAfter, summary-word}
-use borrow.Author.Needs.{needs}
 use Rattle.listing.proofs.put_summary.Statement.{statement}
 use Rattle.listing.proofs.put_summary.Tie as tie
+use borrow.Author.Needs.{needs}
 
 slice-aggregate-put-field : tie.Need-slice-aggregate-put-field
 slice-aggregate-put-field c = search needs

@@ -3,7 +3,7 @@ use borrow.Author.Needs.{needs}
 use native.Mathlib.Omega.{arith}
 use mathlib.Core.Path.{_≡_, sym}
 use lib.ListN.{length}
-use Rattle.lists.specs.Ends.{first-none, first-some}
+use Rattle.lists.proofs.EndsLaws.{first-none, first-some}
 use Rattle.lists.proofs.first_of.Statement.{statement}
 use Rattle.lists.proofs.first_of.Tie as tie
 

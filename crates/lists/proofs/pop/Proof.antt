@@ -4,8 +4,9 @@ use Prim.Native.Nat.{ℕ, _+_, _-_, _≤_}
 use native.Mathlib.Omega.{arith}
 use mathlib.Core.Path.{_≡_, refl, subst, ap, sym, _∙_}
 use lib.ListN.{length, getD, take, drop, set, length-set}
-use Rattle.codec.specs.Bytes.{part, get-step}
-use Rattle.lists.specs.Ends.{popped}
+use Rattle.codec.specs.Bytes.{part}
+use Rattle.codec.proofs.BytesLaws.{get-step}
+use Rattle.lists.proofs.EndsLaws.{popped}
 use Rattle.lists.proofs.pop.Statement.{statement}
 use Rattle.lists.proofs.pop.Tie as tie
 

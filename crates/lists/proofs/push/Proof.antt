@@ -2,7 +2,7 @@
 use borrow.Author.Needs.{needs}
 use mathlib.Core.Path.{_≡_, refl}
 use lib.ListN.{length}
-use Rattle.lists.specs.Ends.{pushed}
+use Rattle.lists.proofs.EndsLaws.{pushed}
 use Rattle.lists.proofs.push.Statement.{statement}
 use Rattle.lists.proofs.push.Tie as tie
 

@@ -9,7 +9,7 @@ use borrow.Author.Needs.{needs}
 use Rattle.codec.specs.Number.{digits}
 use Rattle.model.specs.Hall.{maxRecorders}
 use Rattle.store.specs.Layout.{storedLength}
-use Rattle.opening.specs.Opened.{begin-bytes}
+use Rattle.opening.proofs.OpenedLaws.{begin-bytes}
 use Rattle.opening.proofs.begin.Statement.{statement}
 use Rattle.opening.proofs.begin.Tie as tie
 use Rattle.opening.proofs.begin.Reads as reads

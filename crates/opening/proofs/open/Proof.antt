@@ -1,7 +1,7 @@
 -- `opening::open` meets its contract. Assumes nothing.
 use mathlib.Core.Path.{refl}
 use borrow.Author.Needs.{needs}
-use Rattle.opening.specs.Openings.{leaves-refused, allowed, leaves-opened}
+use Rattle.opening.proofs.Openings.{leaves-refused, allowed, leaves-opened}
 use Rattle.opening.proofs.open.Statement.{statement}
 use Rattle.opening.proofs.open.Tie as tie
 use Rattle.opening.proofs.open.Reads as reads

@@ -6,8 +6,7 @@ use Rattle.quorum.specs.Sets.{members}
 use Rattle.store.specs.Layout.{recordersAt, recorderSize}
 use Rattle.store.specs.Cells.{RecorderCell}
 use Rattle.store.specs.CellForms.{recorderForm}
-use Rattle.opening.specs.Openings.{is-founder, is-outsider}
-use borrow.Author.Needs.{needs}
+use Rattle.opening.proofs.Openings.{is-founder, is-outsider}
 use Rattle.opening.proofs.start.Statement.{statement}
 use Rattle.opening.proofs.start.Tie as tie
 use Rattle.opening.proofs.start.Reads as reads
@@ -15,6 +14,7 @@ use Rattle.opening.proofs.start.Lts as lts
 use Rattle.pieces.proofs.Recorder.founder.Reads as founder-reads
 use Rattle.pieces.proofs.Recorder.outsider.Reads as outsider-reads
 use Rattle.pieces.proofs.put_recorder.Reads as put-recorder-reads
+use borrow.Author.Needs.{needs}
 
 mul-at : tie.Need-mul-at
 mul-at c = search needs

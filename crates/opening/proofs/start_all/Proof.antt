@@ -11,7 +11,8 @@ use Rattle.model.specs.Hall.{maxRecorders}
 use Rattle.store.specs.Layout.{recordersAt, recorderSize}
 use Rattle.store.specs.CellForms.{recorderForm}
 use Rattle.store.specs.StoredForm.{stored}
-use Rattle.opening.specs.Opened.{begun, startOf, start-bytes}
+use Rattle.opening.specs.Opened.{begun, startOf}
+use Rattle.opening.proofs.OpenedLaws.{start-bytes}
 use Rattle.opening.proofs.start_all.Statement.{statement}
 use Rattle.opening.proofs.start_all.Tie as tie
 use Rattle.opening.proofs.start_all.Reads as reads

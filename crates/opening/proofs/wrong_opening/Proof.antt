@@ -2,7 +2,7 @@
 use native.Mathlib.Omega.{arith}
 use mathlib.Core.Path.{sym}
 use borrow.Author.Needs.{needs}
-use Rattle.opening.specs.Openings.{too-few, too-many, founders-above, right-opening}
+use Rattle.opening.proofs.Openings.{too-few, too-many, founders-above, right-opening}
 use Rattle.opening.proofs.wrong_opening.Statement.{statement}
 use Rattle.opening.proofs.wrong_opening.Tie as tie
 

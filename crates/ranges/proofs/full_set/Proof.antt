@@ -1,8 +1,8 @@
 -- 255 without its 8 - n highest bits. Assumes nothing.
-use Rattle.ranges.specs.Parts.{full-set}
-use borrow.Author.Needs.{needs}
+use Rattle.ranges.proofs.Parts.{full-set}
 use Rattle.ranges.proofs.full_set.Statement.{statement}
 use Rattle.ranges.proofs.full_set.Tie as tie
+use borrow.Author.Needs.{needs}
 
 sub-result : tie.Need-sub-result
 sub-result c = search needs

@@ -1,10 +1,10 @@
 -- The two tests are those of the form. Assumes nothing.
 use denote.Ref.{now}
 use mathlib.Core.Path.{sym, _∙_}
-use Rattle.ranges.specs.Parts.{byte-part}
-use borrow.Author.Needs.{needs}
+use Rattle.ranges.proofs.Parts.{byte-part}
 use Rattle.ranges.proofs.valid_byte.Statement.{statement}
 use Rattle.ranges.proofs.valid_byte.Tie as tie
+use borrow.Author.Needs.{needs}
 
 shared-slice-read-x : tie.Need-shared-slice-read-x
 shared-slice-read-x c = search needs

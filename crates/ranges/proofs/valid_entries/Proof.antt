@@ -2,10 +2,10 @@
 use denote.Ref.{now}
 use native.Mathlib.Omega.{arith}
 use mathlib.Core.Path.{sym, _∙_}
-use Rattle.ranges.specs.TableParts.{entries-over, entries-within}
-use borrow.Author.Needs.{needs}
+use Rattle.ranges.proofs.TablePartsLaws.{entries-over, entries-within}
 use Rattle.ranges.proofs.valid_entries.Statement.{statement}
 use Rattle.ranges.proofs.valid_entries.Tie as tie
+use borrow.Author.Needs.{needs}
 
 shared-slice-read-m : tie.Need-shared-slice-read-m
 shared-slice-read-m c = search needs

@@ -2,10 +2,10 @@
 use denote.Ref.{now}
 use native.Mathlib.Omega.{arith}
 use mathlib.Core.Path.{refl}
-use Rattle.ranges.specs.CellParts.{entry-part}
-use borrow.Author.Needs.{needs}
+use Rattle.ranges.proofs.CellPartsLaws.{entry-part}
 use Rattle.ranges.proofs.valid_entry.Statement.{statement}
 use Rattle.ranges.proofs.valid_entry.Tie as tie
+use borrow.Author.Needs.{needs}
 
 add-view : tie.Need-add-view
 add-view c = search needs

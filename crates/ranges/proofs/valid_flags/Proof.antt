@@ -1,10 +1,10 @@
 -- Each flag is 0 or 1. Assumes nothing.
 use denote.Ref.{now}
 use mathlib.Core.Path.{sym, _∙_}
-use Rattle.ranges.specs.Parts.{flags-part}
-use borrow.Author.Needs.{needs}
+use Rattle.ranges.proofs.Parts.{flags-part}
 use Rattle.ranges.proofs.valid_flags.Statement.{statement}
 use Rattle.ranges.proofs.valid_flags.Tie as tie
+use borrow.Author.Needs.{needs}
 
 add-all-in : tie.Need-add-all-in
 add-all-in c = search needs

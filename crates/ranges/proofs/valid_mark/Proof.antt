@@ -1,10 +1,10 @@
 -- The test is that of the form. Assumes nothing.
 use denote.Ref.{now}
 use mathlib.Core.Path.{sym}
-use Rattle.ranges.specs.Parts.{mark-part}
-use borrow.Author.Needs.{needs}
+use Rattle.ranges.proofs.Parts.{mark-part}
 use Rattle.ranges.proofs.valid_mark.Statement.{statement}
 use Rattle.ranges.proofs.valid_mark.Tie as tie
+use borrow.Author.Needs.{needs}
 
 shared-slice-read-result : tie.Need-shared-slice-read-result
 shared-slice-read-result c = search needs

@@ -7,7 +7,7 @@ use mathlib.Core.Path.{sym, _∙_}
 use borrow.Author.Tests.{not-true, not-false}
 use Rattle.store.specs.CellForms.{placeForm}
 use Rattle.codec.specs.Cells.{cells}
-use Rattle.ranges.specs.Loops.{Left, left-start, left-next, cells-fail, cells-done}
+use Rattle.ranges.proofs.Loops.{Left, left-start, left-next, cells-fail, cells-done}
 use Rattle.ranges.proofs.valid_network.Statement.{statement}
 use Rattle.ranges.proofs.valid_network.Tie as tie
 

@@ -1,9 +1,9 @@
 -- Its fields in turn. Assumes nothing.
 use denote.Ref.{now}
-use Rattle.ranges.specs.CellParts.{place-part}
-use borrow.Author.Needs.{needs}
+use Rattle.ranges.proofs.CellPartsLaws.{place-part}
 use Rattle.ranges.proofs.valid_place.Statement.{statement}
 use Rattle.ranges.proofs.valid_place.Tie as tie
+use borrow.Author.Needs.{needs}
 
 add-receive : tie.Need-add-receive
 add-receive c = search needs

@@ -1,9 +1,9 @@
 -- Its fields in turn. Assumes nothing.
 use denote.Ref.{now}
-use Rattle.ranges.specs.CellParts.{queued-part}
-use borrow.Author.Needs.{needs}
+use Rattle.ranges.proofs.CellPartsLaws.{queued-part}
 use Rattle.ranges.proofs.valid_queued.Statement.{statement}
 use Rattle.ranges.proofs.valid_queued.Tie as tie
+use borrow.Author.Needs.{needs}
 
 valid-byte-requires : tie.Need-valid-byte-requires
 valid-byte-requires c κs = search needs

@@ -1,9 +1,9 @@
 -- Its fields in turn. Assumes nothing.
 use denote.Ref.{now}
-use Rattle.ranges.specs.CellParts.{recorder-part}
-use borrow.Author.Needs.{needs}
+use Rattle.ranges.proofs.CellPartsLaws.{recorder-part}
 use Rattle.ranges.proofs.valid_recorder.Statement.{statement}
 use Rattle.ranges.proofs.valid_recorder.Tie as tie
+use borrow.Author.Needs.{needs}
 
 add-phase : tie.Need-add-phase
 add-phase c = search needs

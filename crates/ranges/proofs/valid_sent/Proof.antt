@@ -2,10 +2,10 @@
 use denote.Ref.{now}
 use native.Mathlib.Omega.{arith}
 use mathlib.Core.Path.{sym, _∙_}
-use Rattle.ranges.specs.CellParts.{sent-none, sent-some, sent-over}
-use borrow.Author.Needs.{needs}
+use Rattle.ranges.proofs.CellPartsLaws.{sent-none, sent-some, sent-over}
 use Rattle.ranges.proofs.valid_sent.Statement.{statement}
 use Rattle.ranges.proofs.valid_sent.Tie as tie
+use borrow.Author.Needs.{needs}
 
 shared-slice-read-count : tie.Need-shared-slice-read-count
 shared-slice-read-count c = search needs

@@ -1,9 +1,9 @@
 -- Its fields in turn. Assumes nothing.
 use denote.Ref.{now}
-use Rattle.ranges.specs.CellParts.{summary-part}
-use borrow.Author.Needs.{needs}
+use Rattle.ranges.proofs.CellPartsLaws.{summary-part}
 use Rattle.ranges.proofs.valid_summary.Statement.{statement}
 use Rattle.ranges.proofs.valid_summary.Tie as tie
+use borrow.Author.Needs.{needs}
 
 add-order : tie.Need-add-order
 add-order c = search needs

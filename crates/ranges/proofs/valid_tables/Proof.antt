@@ -1,10 +1,10 @@
 -- The four tables in turn. Assumes nothing.
 use Rattle.ranges.specs.TableParts.{tablesIn}
+use Rattle.ranges.proofs.valid_tables.Statement.{statement}
+use Rattle.ranges.proofs.valid_tables.Tie as tie
 use mathlib.Core.Path.{ap₂, _∙_}
 use mathlib.Core.Bool.{_&&_}
 use borrow.Author.Needs.{needs}
-use Rattle.ranges.proofs.valid_tables.Statement.{statement}
-use Rattle.ranges.proofs.valid_tables.Tie as tie
 
 valid-entries-requires : tie.Need-valid-entries-requires
 valid-entries-requires c κs = search needs

@@ -1,9 +1,9 @@
 -- Number and set. Assumes nothing.
 use denote.Ref.{now}
-use Rattle.ranges.specs.CellParts.{view-part}
-use borrow.Author.Needs.{needs}
+use Rattle.ranges.proofs.CellPartsLaws.{view-part}
 use Rattle.ranges.proofs.valid_view.Statement.{statement}
 use Rattle.ranges.proofs.valid_view.Tie as tie
+use borrow.Author.Needs.{needs}
 
 get-u32-requires : tie.Need-get-u32-requires
 get-u32-requires c κs = search needs

@@ -2,10 +2,10 @@
 use denote.Ref.{now}
 use native.Mathlib.Omega.{arith}
 use mathlib.Core.Path.{sym}
-use Rattle.ranges.specs.TableParts.{views-over, views-part}
-use borrow.Author.Needs.{needs}
+use Rattle.ranges.proofs.TablePartsLaws.{views-over, views-part}
 use Rattle.ranges.proofs.valid_views.Statement.{statement}
 use Rattle.ranges.proofs.valid_views.Tie as tie
+use borrow.Author.Needs.{needs}
 
 shared-slice-read-m : tie.Need-shared-slice-read-m
 shared-slice-read-m c = search needs

@@ -1,6 +1,6 @@
 -- By the view number. Assumes nothing.
 use mathlib.Core.Path.{sym}
-use Rattle.ranges.specs.CellParts.{no-label, some-label}
+use Rattle.ranges.proofs.CellPartsLaws.{no-label, some-label}
 use Rattle.ranges.proofs.whole_label.Statement.{statement}
 use Rattle.ranges.proofs.whole_label.Tie as tie
 

@@ -1,8 +1,8 @@
 -- `step::kind_refusal` meets its contract. Assumes nothing.
-use Rattle.step.specs.Steps as steps
-use native.Mathlib.Omega.{arith}
+use Rattle.step.proofs.StepsLaws as steps
 use Rattle.step.proofs.kind_refusal.Statement.{statement}
 use Rattle.step.proofs.kind_refusal.Tie as tie
+use native.Mathlib.Omega.{arith}
 
 returns : tie.Need-returns
 returns c = steps.number-low _ (c .if1 .taken)

@@ -1,9 +1,9 @@
 -- `step::step` meets its contract. Assumes nothing.
 use denote.Ref.{now}
-use Rattle.step.specs.Steps as steps
-use borrow.Author.Needs.{needs}
+use Rattle.step.proofs.StepsLaws as steps
 use Rattle.step.proofs.step.Statement.{statement}
 use Rattle.step.proofs.step.Tie as tie
+use borrow.Author.Needs.{needs}
 
 kind-refusal-requires : tie.Need-kind-refusal-requires
 kind-refusal-requires c κs = search needs

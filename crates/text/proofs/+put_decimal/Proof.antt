@@ -6,7 +6,7 @@ use borrow.Author.Needs.{needs}
 use native.Mathlib.Omega.{arith}
 use lib.ListN.{length-set}
 use Rattle.text.proofs.Decimal.{decimal-small, decimal-more, length-small, length-more}
-use Rattle.text.specs.Text.{wrote-one, then}
+use Rattle.text.proofs.TextLaws.{wrote-one, then}
 use Rattle.text.proofs.put_decimal.Reads as reads
 use Rattle.text.proofs.put_decimal.Kinds as kinds
 use Rattle.text.proofs.+put_decimal.Lts-put_decimal as lts

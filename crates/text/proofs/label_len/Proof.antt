@@ -1,9 +1,9 @@
 -- A space, three numbers and two points. Assumes nothing.
 use native.Mathlib.Omega.{arith}
-use Rattle.text.specs.Fields.{length-label}
-use borrow.Author.Needs.{needs}
+use Rattle.text.proofs.FieldsLaws.{length-label}
 use Rattle.text.proofs.label_len.Statement.{statement}
 use Rattle.text.proofs.label_len.Tie as tie
+use borrow.Author.Needs.{needs}
 
 decimal-len-requires : tie.Need-decimal-len-requires
 decimal-len-requires c κs = search needs

@@ -2,10 +2,10 @@
 use native.Mathlib.Omega.{arith}
 use mathlib.Core.List.{[]}
 use Rattle.model.specs.Listing.{decimal}
-use Rattle.text.specs.Fields.{length-fields, length-close}
-use borrow.Author.Needs.{needs}
+use Rattle.text.proofs.FieldsLaws.{length-fields, length-close}
 use Rattle.text.proofs.last_len.Statement.{statement}
 use Rattle.text.proofs.last_len.Tie as tie
+use borrow.Author.Needs.{needs}
 
 decimal-len-requires : tie.Need-decimal-len-requires
 decimal-len-requires c κs = search needs

@@ -1,11 +1,11 @@
 -- Three numbers, with a point between them. Assumes nothing.
 use native.Mathlib.Omega.{arith}
-use Rattle.text.specs.Text.{then}
-use Rattle.text.specs.Fields.{length-label}
+use Rattle.text.proofs.TextLaws.{then}
+use Rattle.text.proofs.FieldsLaws.{length-label}
 use Rattle.model.specs.Listing.{labelText}
-use borrow.Author.Needs.{needs}
 use Rattle.text.proofs.put_label.Statement.{statement}
 use Rattle.text.proofs.put_label.Tie as tie
+use borrow.Author.Needs.{needs}
 
 put-number-requires : tie.Need-put-number-requires
 put-number-requires c κs = let a = c .before .before .args in record { fits = omega (arith, length-label (a .view) (a .seq) (a .sender)) }

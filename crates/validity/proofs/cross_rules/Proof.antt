@@ -2,10 +2,10 @@
 use denote.Ref.{now}
 use mathlib.Core.Path.{sym, ap₂, _∙_}
 use mathlib.Core.Bool.{_&&_}
-use Rattle.validity.specs.CrossParts.{labels-apart, cross-parts}
-use borrow.Author.Needs.{needs}
+use Rattle.validity.proofs.CrossPartsLaws.{labels-apart, cross-parts}
 use Rattle.validity.proofs.cross_rules.Statement.{statement}
 use Rattle.validity.proofs.cross_rules.Tie as tie
+use borrow.Author.Needs.{needs}
 
 labels-of-requires : tie.Need-labels-of-requires
 labels-of-requires c κs = search needs

@@ -7,7 +7,8 @@ use mathlib.Core.Path.{_≡_, sym, ap, subst, _∙_}
 use mathlib.Core.List.{List}
 use Rattle.quorum.specs.Sets.{has}
 use Rattle.ranges.specs.TableParts.{viewNumbers}
-use Rattle.validity.specs.Alls.{Found, viewsFrom, views-all, search-next, search-end}
+use Rattle.validity.specs.Alls.{Found}
+use Rattle.validity.proofs.AllsLaws.{viewsFrom, views-all, search-next, search-end}
 use Rattle.validity.proofs.find_view.Statement.{statement}
 use Rattle.validity.proofs.find_view.Tie as tie
 

@@ -7,11 +7,11 @@ use mathlib.Core.Bool.{true}
 use borrow.Author.Tests.{not-true, not-false}
 use Rattle.quorum.specs.Sets.{recorders}
 use Rattle.model.specs.Base.{all}
-use Rattle.validity.specs.Alls.{all-none, all-next, all-fail, all-done}
-use lib.ListN.{getD}
+use Rattle.validity.proofs.AllsLaws.{all-none, all-next, all-fail, all-done}
 use Rattle.validity.specs.Marks.{heardOk}
 use Rattle.validity.proofs.heard_all.Statement.{statement}
 use Rattle.validity.proofs.heard_all.Tie as tie
+use lib.ListN.{getD}
 
 abbrev Inv-loop : tie.InvT-loop
 Inv-loop b at set i j₀ j = (j ≤ 8) × (all (heardOk b at (getD b 0 0) set i) (recorders j) ≡ true)

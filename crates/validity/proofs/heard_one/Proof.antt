@@ -1,10 +1,11 @@
 -- By the flag. Assumes nothing.
 use mathlib.Core.Path.{sym, ap₂, _∙_}
 use mathlib.Core.Bool.{_&&_}
-use Rattle.validity.specs.Marks.{heardOk, flag-on, flag-off}
-use borrow.Author.Needs.{needs}
+use Rattle.validity.specs.Marks.{heardOk}
+use Rattle.validity.proofs.MarksLaws.{flag-on, flag-off}
 use Rattle.validity.proofs.heard_one.Statement.{statement}
 use Rattle.validity.proofs.heard_one.Tie as tie
+use borrow.Author.Needs.{needs}
 
 sub-if1 : tie.Need-sub-if1
 sub-if1 c = search needs

@@ -2,11 +2,11 @@
 use denote.Ref.{now}
 use native.Mathlib.Omega.{arith}
 use mathlib.Core.Path.{sym, _∙_}
-use Rattle.validity.specs.RawHall.{ranged}
+use Rattle.validity.proofs.RawHallLaws.{ranged}
 use Rattle.validity.proofs.CodeLaws.{stored-short, fields-held, stored-range, stored-cross}
-use borrow.Author.Needs.{needs}
 use Rattle.validity.proofs.is_hall.Statement.{statement}
 use Rattle.validity.proofs.is_hall.Tie as tie
+use borrow.Author.Needs.{needs}
 
 returns : tie.Need-returns
 returns c = sym (stored-short (now (c .before .before .args .b)) (c .if1 .taken))

@@ -1,10 +1,10 @@
 -- By the range of the number. Assumes nothing.
 use denote.Ref.{now}
 use mathlib.Core.Path.{sym}
-use Rattle.validity.specs.Marks.{marked-low, marked-high, marked-in}
-use borrow.Author.Needs.{needs}
+use Rattle.validity.proofs.MarksLaws.{marked-low, marked-high, marked-in}
 use Rattle.validity.proofs.is_marked.Statement.{statement}
 use Rattle.validity.proofs.is_marked.Tie as tie
+use borrow.Author.Needs.{needs}
 
 returns : tie.Need-returns
 returns c = sym (marked-low (now (c .before .args .labels)) (c .before .args .x) (c .if1 .taken))

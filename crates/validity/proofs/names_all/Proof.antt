@@ -9,7 +9,7 @@ use borrow.Author.Tests.{not-true, not-false}
 use Rattle.codec.specs.Bytes.{part}
 use Rattle.codec.specs.ByteList.{listAt}
 use Rattle.model.specs.Base.{all}
-use Rattle.validity.specs.Alls.{part-none, part-fail, part-next}
+use Rattle.validity.proofs.AllsLaws.{part-none, part-fail, part-next}
 use Rattle.validity.specs.Marks.{messageMarked}
 use Rattle.validity.proofs.names_all.Statement.{statement}
 use Rattle.validity.proofs.names_all.Tie as tie

@@ -1,10 +1,10 @@
 -- The summary, or an entry. Assumes nothing.
 use denote.Ref.{now}
 use mathlib.Core.Path.{sym, _∙_}
-use Rattle.validity.specs.Marks.{message-summary, message-entry}
-use borrow.Author.Needs.{needs}
+use Rattle.validity.proofs.MarksLaws.{message-summary, message-entry}
 use Rattle.validity.proofs.names_message.Statement.{statement}
 use Rattle.validity.proofs.names_message.Tie as tie
+use borrow.Author.Needs.{needs}
 
 is-marked-requires : tie.Need-is-marked-requires
 is-marked-requires c κs = search needs

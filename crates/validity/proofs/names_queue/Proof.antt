@@ -11,8 +11,8 @@ use Rattle.store.specs.Valid.{queueNames}
 use Rattle.store.specs.CellForms.{queuedForm}
 use Rattle.validity.specs.Alls.{viewAt}
 use Rattle.validity.specs.RawHall.{raw}
-use Rattle.validity.specs.RawCells.{queue-count}
-use Rattle.validity.specs.CrossParts.{queue-all, queue-fail, queue-next, queue-done}
+use Rattle.validity.proofs.RawCells.{queue-count}
+use Rattle.validity.proofs.CrossPartsLaws.{queue-all, queue-fail, queue-next, queue-done}
 use Rattle.validity.proofs.names_queue.Statement.{statement}
 use Rattle.validity.proofs.names_queue.Tie as tie
 

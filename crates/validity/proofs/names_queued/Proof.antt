@@ -10,9 +10,9 @@ use Rattle.quorum.proofs.SetLaws.{members-range}
 use Rattle.validity.specs.Marks.{messageMarked}
 use Rattle.validity.specs.RawHall.{sizeAt}
 use Rattle.validity.proofs.CodeLaws.{queued-member, queued-other}
-use borrow.Author.Needs.{needs}
 use Rattle.validity.proofs.names_queued.Statement.{statement}
 use Rattle.validity.proofs.names_queued.Tie as tie
+use borrow.Author.Needs.{needs}
 
 shared-slice-read-source : tie.Need-shared-slice-read-source
 shared-slice-read-source c = search needs

@@ -1,11 +1,11 @@
 -- By the count of sent summaries. Assumes nothing.
 use mathlib.Core.Path.{sym, ap₂, _∙_}
 use mathlib.Core.Bool.{_&&_}
-use Rattle.validity.specs.Marks.{flag-on, flag-off}
+use Rattle.validity.proofs.MarksLaws.{flag-on, flag-off}
 use Rattle.validity.specs.CrossParts.{summaryOk}
-use borrow.Author.Needs.{needs}
 use Rattle.validity.proofs.names_summary.Statement.{statement}
 use Rattle.validity.proofs.names_summary.Tie as tie
+use borrow.Author.Needs.{needs}
 
 add-if1 : tie.Need-add-if1
 add-if1 c = search needs

@@ -10,10 +10,10 @@ use Rattle.quorum.specs.Sets.{has, members}
 use Rattle.model.specs.Base.{all}
 use Rattle.validity.specs.Marks.{messageMarked, placeOff}
 use Rattle.validity.specs.RawHall.{sizeAt}
-use Rattle.validity.specs.CrossParts.{place-member, place-other}
-use borrow.Author.Needs.{needs}
+use Rattle.validity.proofs.CrossPartsLaws.{place-member, place-other}
 use Rattle.validity.proofs.place_cross.Statement.{statement}
 use Rattle.validity.proofs.place_cross.Tie as tie
+use borrow.Author.Needs.{needs}
 
 sub-at : tie.Need-sub-at
 sub-at c = search needs

@@ -7,7 +7,8 @@ use mathlib.Core.Bool.{true}
 use borrow.Author.Tests.{not-true, not-false}
 use Rattle.quorum.specs.Sets.{recorders}
 use Rattle.model.specs.Base.{all}
-use Rattle.validity.specs.Alls.{viewAt, all-none, all-next, all-fail, all-done}
+use Rattle.validity.specs.Alls.{viewAt}
+use Rattle.validity.proofs.AllsLaws.{all-none, all-next, all-fail, all-done}
 use Rattle.store.specs.Valid.{placeCross}
 use Rattle.validity.specs.RawHall.{raw}
 use Rattle.validity.proofs.places_cross.Statement.{statement}

@@ -9,10 +9,10 @@ use Rattle.model.specs.Base.{all}
 use Rattle.validity.specs.Alls.{Found}
 use Rattle.validity.specs.Marks.{heardOk, sourceOk}
 use Rattle.validity.specs.RawHall.{sizeAt, viewCount}
-use Rattle.validity.specs.CrossParts.{recorder-cross}
-use borrow.Author.Needs.{needs}
+use Rattle.validity.proofs.CrossPartsLaws.{recorder-cross}
 use Rattle.validity.proofs.recorder_cross.Statement.{statement}
 use Rattle.validity.proofs.recorder_cross.Tie as tie
+use borrow.Author.Needs.{needs}
 
 sub-at : tie.Need-sub-at
 sub-at c = search needs

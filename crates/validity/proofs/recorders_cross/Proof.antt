@@ -7,7 +7,7 @@ use mathlib.Core.Bool.{true}
 use borrow.Author.Tests.{not-true, not-false}
 use Rattle.quorum.specs.Sets.{recorders}
 use Rattle.model.specs.Base.{all}
-use Rattle.validity.specs.Alls.{all-none, all-next, all-fail, all-done}
+use Rattle.validity.proofs.AllsLaws.{all-none, all-next, all-fail, all-done}
 use Rattle.store.specs.Valid.{recorderCross}
 use Rattle.validity.specs.RawHall.{raw}
 use Rattle.validity.proofs.recorders_cross.Statement.{statement}

@@ -1,9 +1,10 @@
 -- By the flag. Assumes nothing.
 use mathlib.Core.Path.{sym, _∙_}
-use Rattle.validity.specs.Marks.{sourceOk, flag-on, flag-off}
-use borrow.Author.Needs.{needs}
+use Rattle.validity.specs.Marks.{sourceOk}
+use Rattle.validity.proofs.MarksLaws.{flag-on, flag-off}
 use Rattle.validity.proofs.source_one.Statement.{statement}
 use Rattle.validity.proofs.source_one.Tie as tie
+use borrow.Author.Needs.{needs}
 
 sub-if1 : tie.Need-sub-if1
 sub-if1 c = search needs

@@ -7,10 +7,11 @@ use Rattle.quorum.specs.Sets.{recorders}
 use Rattle.model.specs.Base.{all}
 use Rattle.store.specs.Valid.{placeCross}
 use Rattle.validity.specs.Alls.{viewAt}
-use Rattle.validity.specs.RawHall.{raw, raw-size}
-use borrow.Author.Needs.{needs}
+use Rattle.validity.specs.RawHall.{raw}
+use Rattle.validity.proofs.RawHallLaws.{raw-size}
 use Rattle.validity.proofs.view_cross.Statement.{statement}
 use Rattle.validity.proofs.view_cross.Tie as tie
+use borrow.Author.Needs.{needs}
 
 shared-slice-read-n : tie.Need-shared-slice-read-n
 shared-slice-read-n c = search needs

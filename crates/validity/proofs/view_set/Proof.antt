@@ -1,10 +1,10 @@
 -- The view's byte, or none. Assumes nothing.
 use denote.Ref.{now}
 use mathlib.Core.Path.{sym}
-use Rattle.validity.specs.RawHall.{set-in, set-out}
-use borrow.Author.Needs.{needs}
+use Rattle.validity.proofs.RawHallLaws.{set-in, set-out}
 use Rattle.validity.proofs.view_set.Statement.{statement}
 use Rattle.validity.proofs.view_set.Tie as tie
+use borrow.Author.Needs.{needs}
 
 shared-slice-read-m : tie.Need-shared-slice-read-m
 shared-slice-read-m c = search needs

@@ -6,7 +6,7 @@ use mathlib.Core.Path.{_≡_, sym, ap, _∙_}
 use borrow.Author.Tests.{not-true, not-false}
 use Rattle.model.specs.Base.{all}
 use Rattle.ranges.specs.TableParts.{viewNumbers}
-use Rattle.validity.specs.Alls.{viewsFrom, views-all, views-fail, views-next, views-none}
+use Rattle.validity.proofs.AllsLaws.{viewsFrom, views-all, views-fail, views-next, views-none}
 use Rattle.validity.specs.RawHall.{raw}
 use Rattle.validity.specs.CrossParts.{viewCross}
 use Rattle.validity.proofs.views_cross.Statement.{statement}

@@ -1,4 +1,4 @@
-use Rattle.words.specs.Words.{first-none, first-some}
+use Rattle.words.proofs.WordsLaws.{first-none, first-some}
 use Rattle.words.proofs.first.Statement.{statement}
 use Rattle.words.proofs.first.Tie as tie
 use Rattle.words.proofs.first.Reads as reads

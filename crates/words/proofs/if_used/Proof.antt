@@ -1,4 +1,4 @@
-use Rattle.words.specs.Words.{refuse-yes, refuse-no, not-zero, is-zero}
+use Rattle.words.proofs.WordsLaws.{refuse-yes, refuse-no, not-zero, is-zero}
 use Rattle.words.proofs.if_used.Statement.{statement}
 use Rattle.words.proofs.if_used.Tie as tie
 

@@ -3,7 +3,8 @@ use mathlib.Core.Path.{refl, sym, ap, ap₂, _∙_}
 use borrow.Author.Needs.{needs}
 use Rattle.model.specs.Base.{_⨾_}
 use Rattle.model.specs.Kinds.{enter, order, kinds, kindOf, uses, inputRefusal}
-use Rattle.words.specs.Words.{kindAt, recorder-words, submit-words, view-words, form-words, recorder-kinds}
+use Rattle.words.specs.Words.{kindAt}
+use Rattle.words.proofs.WordsLaws.{recorder-words, submit-words, view-words, form-words, recorder-kinds}
 use Rattle.words.proofs.input_refusal.Statement.{statement}
 use Rattle.words.proofs.input_refusal.Tie as tie
 use Rattle.words.proofs.input_refusal.Reads as reads

@@ -1,6 +1,6 @@
 use borrow.Author.Needs.{needs}
 use Rattle.model.specs.Hall.{maxNumber}
-use Rattle.words.specs.Words.{refuse-yes, refuse-no, low-out, high-out, inside}
+use Rattle.words.proofs.WordsLaws.{refuse-yes, refuse-no, low-out, high-out, inside}
 use Rattle.words.proofs.number_refusal.Statement.{statement}
 use Rattle.words.proofs.number_refusal.Tie as tie
 use Rattle.words.proofs.number_refusal.Reads as reads

@@ -1,5 +1,5 @@
 use borrow.Author.Needs.{needs}
-use Rattle.words.specs.Words.{refuse-yes, refuse-no, low-out, high-out, inside}
+use Rattle.words.proofs.WordsLaws.{refuse-yes, refuse-no, low-out, high-out, inside}
 use Rattle.words.proofs.recorder_refusal.Statement.{statement}
 use Rattle.words.proofs.recorder_refusal.Tie as tie
 use Rattle.words.proofs.recorder_refusal.Reads as reads

@@ -4,10 +4,10 @@ use mathlib.Core.Bool.{_||_}
 use lib.Dec.{eqb, leb}
 use borrow.Author.Tests.{eq-eqb, ne-eqb}
 use Rattle.model.proofs.Agreement.Tools.{or-right}
-use Rattle.words.specs.Words.{refuse-yes, refuse-no, names-above, names-within}
-use borrow.Author.Needs.{needs}
+use Rattle.words.proofs.WordsLaws.{refuse-yes, refuse-no, names-above, names-within}
 use Rattle.words.proofs.set_refusal.Statement.{statement}
 use Rattle.words.proofs.set_refusal.Tie as tie
+use borrow.Author.Needs.{needs}
 
 returns : tie.Need-returns
 returns c = refuse-yes _ 15 (ap (λ t. t || leb (2 ^ c .before .args .n) (c .before .args .b)) (eq-eqb _ 0 (c .if1 .taken)))

@@ -2,7 +2,7 @@ use mathlib.Core.Path.{ap, ap₂}
 use mathlib.Core.Bool.{not, _||_}
 use lib.Dec.{eqb}
 use Rattle.model.proofs.Agreement.Tools.{or-right}
-use Rattle.words.specs.Words.{refuse-yes, refuse-no, not-zero, is-zero}
+use Rattle.words.proofs.WordsLaws.{refuse-yes, refuse-no, not-zero, is-zero}
 use Rattle.words.proofs.stray_refusal.Statement.{statement}
 use Rattle.words.proofs.stray_refusal.Tie as tie
 

@@ -1,0 +1,11 @@
+pub mod FormLaws
+pub mod BoundedLaws
+pub mod PairLaws
+pub mod ByteListLaws
+pub mod Blank
+pub mod TableLaws
+pub mod NumberLaws
+pub mod BytesLaws
+pub mod CellsLaws
+pub mod Piece
+pub mod SliceLaws

@@ -1,0 +1,407 @@
+-- Laws of specs/Opened. Assumes nothing.
+use Prim.Native.Nat.{ℕ, zero, suc, _+_, _-_, _*_, _^_, _≤_, _<_}
+use native.Mathlib.Omega.{arith}
+use native.Mathlib.Numerals.{add-one}
+use mathlib.Core.Path.{_≡_, refl, sym, ap, ap₂, _∙_}
+use mathlib.Core.Logic.{⊎-elim}
+use mathlib.Core.Bool.{Bool, true, false, _&&_, _||_, or-false, false≢true}
+use mathlib.Core.List.{List, [], _∷_, _++_, map}
+use lib.Dec.{eqb}
+use borrow.Author.Tests.{eqb-false, ne-eqb, ltb-false}
+use lib.ListN.{length, drop, length-map, length-replicate}
+use lib.Pow.{pow-mono}
+use lib.Seq.{sets, sets-eq, length-sets}
+use Rattle.base.specs.Update.{upd}
+use Rattle.codec.specs.Bytes.{zeros}
+use Rattle.codec.proofs.BytesLaws.{sets-append}
+use Rattle.codec.specs.Form.{Form, mapped, renamed, guarded}
+use Rattle.codec.specs.Number.{digits, number, byte, flag}
+use Rattle.codec.proofs.NumberLaws.{digits-byte}
+use Rattle.codec.specs.Pair.{given}
+use Rattle.codec.specs.Cells.{cells}
+use Rattle.codec.proofs.Blank.{Blank, blank-number, blank-flag, blank-given, blank-cells, blank-bounded}
+use Rattle.codec.specs.Table.{table, numbers, flags}
+use Rattle.codec.proofs.TableLaws.{all-keys, length-numbers}
+use Rattle.codec.proofs.SliceLaws.{sets-append-left}
+use Rattle.quorum.specs.Sets.{recorders, filter, inMask, members, mask, has, rising}
+use Rattle.quorum.proofs.SetLaws.{has-there, has-append, has-filter, has-members, recorders-range, members-range, members-nonempty, rising-recorders, rising-members, mask-append, mask-members}
+use Rattle.model.specs.Hall.{maxEntries, maxSequence, maxBuffer, maxOrder, maxViews, maxNumber, maxPending, maxQueue, maxRecorders, Queued, normal, Hall}
+use Rattle.model.specs.Fields.{setCurrent, setService}
+use Rattle.model.specs.Service.{createview}
+use Rattle.model.specs.Opening.{Opening, openRefusal, founderSet, noEntries, blankSummary, noSummaries, firstView, openService, openRecorders, openHall, opened}
+use Rattle.model.proofs.Agreement.Tools.{upd-ext, true-or-false}
+use Rattle.model.proofs.Agreement.Chains.{chain-none, not-refused}
+use Rattle.model.proofs.Agreement.KeepViews.{has-none, founder-first, outsider-first}
+use Rattle.store.specs.Layout.{storedLength, recordersAt, recorderSize}
+use Rattle.store.specs.Valid.{EachIn, ViewsIn, RecorderIn, InRange}
+use Rattle.store.specs.Cells.{entryAt, RecorderCell, blankRecorder, recorderAt, blankPlace, blankEntry, placeAt, PlaceCell}
+use Rattle.store.specs.CellForms.{viewNumber, entryList, phaseForm, entryForm, recorderForm, placeForm, queueForm}
+use Rattle.store.proofs.CellFormsLaws.{recorder-lawful}
+use Rattle.store.specs.Masks.{setForm}
+use Rattle.store.proofs.MasksLaws.{members-mask}
+use Rattle.store.specs.ViewForm.{viewForm, viewList, viewsForm}
+use Rattle.store.specs.HallForm.{entriesForm, recordersForm, rowForm, networkForm, queuesForm, bodyForm, afterSize, fields, fromHall, hallFields, hallForm}
+use Rattle.store.proofs.HallFormLaws.{hallFields-lawful}
+use Rattle.store.proofs.Ranges.{recorder-ok}
+use Rattle.store.proofs.HallOk.{fields-ok}
+use Rattle.store.specs.StoredForm.{stored}
+use Rattle.store.proofs.Pieces.{recorder-piece}
+use Rattle.store.proofs.Puts.{putRecorder}
+use Rattle.store.proofs.Growth.{form-bytes}
+use Rattle.store.proofs.KeepFacts.{Between, Outside, not-outside, is-false}
+use Rattle.store.proofs.KeepEntries.{not-empty}
+use Rattle.store.proofs.KeepValid.{open-facts, opening-in}
+use Rattle.calls.specs.Calls.{OpenOutcome, openNumber}
+use Rattle.hall.proofs.Changes.{but-upd}
+use Rattle.hall.proofs.Writes.{write-piece}
+use Rattle.opening.specs.Opened.{founderMask, hallWith, begun, startOf, Taken}
+
+-- ## The founders' mask
+
+all-mask : (n : ℕ) → mask (recorders n) + 1 ≡ 2 ^ n
+unfolding recorders mask
+all-mask zero = refl
+all-mask (suc n) =
+    let e : suc n - 1 ≡ n = omega arith in
+    omega (arith, mask-append (recorders n) (suc n ∷ []), all-mask n, ap (λ (k : ℕ). 2 ^ k) e)
+
+pub founder-set : (o : Opening) → founderSet o ≡ members (o .size) (founderMask o)
+unfolding founderSet founderMask
+founder-set o = go (eqb (o .founders) 0)
+  where
+    n : ℕ
+    n = o .size
+
+    go : (t : Bool) → _≡_ {A = List ℕ} (elim t [ true ↦ recorders n | false ↦ members n (o .founders) ])
+        (members n (elim t [ true ↦ 2 ^ n - 1 | false ↦ o .founders ]))
+    go true =
+        let e : mask (recorders n) ≡ 2 ^ n - 1 = omega (arith, all-mask n) in
+        sym (members-mask n (recorders n) (rising-recorders n, recorders-range n)) ∙ ap (members n) e
+    go false = refl
+
+pub founder-mask-in : (o : Opening) → 1 ≤ o .size → o .founders < 2 ^ o .size
+    → (1 ≤ founderMask o) × (founderMask o < 2 ^ o .size)
+unfolding founderMask
+founder-mask-in o low high = go (eqb (o .founders) 0) refl
+  where
+    go : (t : Bool) → eqb (o .founders) 0 ≡ t
+        → (1 ≤ elim t [ true ↦ 2 ^ o .size - 1 | false ↦ o .founders ]) × (elim t [ true ↦ 2 ^ o .size - 1 | false ↦ o .founders ] < 2 ^ o .size)
+    go true e = omega (arith, pow-mono low)
+    go false e = omega (arith, eqb-false (o .founders) 0 e)
+
+-- ## Halls on the way
+
+-- a hall of n recorders and nothing else
+unfoldable pub blankHall : ℕ → Hall
+blankHall n = hallWith n [] (λ g. []) []
+
+pub begun-opened : (o : Opening) → begun (o .size) (founderMask o) (o .size) ≡ opened o
+unfolding begun hallWith opened openHall openService
+begun-opened o = ap (openHall (o .size)) (sym (founder-set o))
+
+pub begun-none : (n m : ℕ) → setService (createview 1 (members n m) (blankHall n .service)) (blankHall n) ≡ begun n m 0
+unfolding begun hallWith blankHall createview openService members recorders filter
+begun-none n m = refl
+
+-- one recorder more
+members-other : (k m q : ℕ) → (q ≡ suc k → ⊥) → has (members (suc k) m) q ≡ has (members k m) q
+unfolding members recorders has
+members-other k m q ne =
+    has-filter (inMask m) (recorders (suc k)) q
+    ∙ ap (λ (t : Bool). t && inMask m q) (has-append (recorders k) (suc k ∷ []) q ∙ ap (λ (t : Bool). has (recorders k) q || t) (has-there (suc k) [] q (ne-eqb q (suc k) ne)) ∙ or-false (has (recorders k) q))
+    ∙ sym (has-filter (inMask m) (recorders k) q)
+
+first-more : (n m k : ℕ) → k < n → firstView (members (suc k) m) ≡ upd (firstView (members k m)) (suc k) (firstView (members n m) (suc k))
+unfolding firstView
+first-more n m k h =
+    let at : Bool → ℕ = λ t. elim t [ true ↦ 1 | false ↦ 0 ] in
+    upd-ext (firstView (members k m)) (firstView (members (suc k) m)) (suc k) _
+    (ap at (has-members (suc k) m (suc k) (omega arith) (omega arith) ∙ sym (has-members n m (suc k) (omega arith) h)))
+    (λ q ne. ap at (members-other k m q ne))
+
+constant : {A : Type 0} (p : ℕ) (x : A) → (λ (q : ℕ). x) ≡ upd (λ (q : ℕ). x) p x
+constant p x = but-upd {p = p} {f = λ (q : ℕ). x} {k = λ (q : ℕ). x} (λ q ne. refl)
+
+pub begun-more : (n m k : ℕ) → k < n → begun n m (suc k) ≡ putRecorder (suc k) (startOf n m (suc k)) (begun n m k)
+unfolding begun hallWith putRecorder recorderAt openHall openService openRecorders
+begun-more n m k h =
+    let r = suc k in
+    λ i. record {
+      size = n;
+      entries = noEntries;
+      service = setCurrent (first-more n m k h i) (begun n m k .service);
+      summaries = noSummaries;
+      recorders =
+          record {
+            phase = constant r normal i;
+            known = constant r (λ e. false) i;
+            nextSeq = constant r 1 i;
+            buffer = constant r [] i;
+            order = constant r [] i;
+            safe = constant r (λ e. false) i;
+            confirm = constant r 1 i;
+            report = constant r 1 i;
+            high = first-more n m k h i;
+            heard = constant r (λ q. false) i;
+            safeSources = constant r (λ q. false) i;
+          };
+    }
+
+-- each of them has its fields in range
+recorder-in : (started : List ℕ) (r : ℕ) → RecorderIn (firstView started) (openRecorders started) r
+unfolding openRecorders maxEntries maxSequence maxBuffer maxOrder maxNumber
+recorder-in started r =
+    let first : firstView started r ≤ 255 =
+    ⊎-elim (λ t. rw (founder-first started r t) (omega arith)) (λ f. rw (outsider-first started r f) (omega arith))
+    (true-or-false (has started r)) in
+    record {
+      current = first;
+      known = λ e t. absurd (false≢true t);
+      nextSeq = omega arith;
+      bufferLength = omega arith;
+      buffer = λ e t. absurd (has-none e t);
+      orderLength = omega arith;
+      order = λ e t. absurd (has-none e t);
+      safe = λ e t. absurd (false≢true t);
+      confirm = omega arith;
+      report = omega arith;
+      high = first;
+      heard = λ q t. absurd (false≢true t);
+      safeSources = λ q t. absurd (false≢true t);
+    }
+
+start-ok : (n m r : ℕ) → recorderForm .ok (startOf n m r)
+unfolding openHall openService
+start-ok n m r = recorder-ok (firstView (members n m)) (openRecorders (members n m)) r .0 (recorder-in (members n m) r)
+
+module _ (n : ℕ) (created : List ℕ) (sets : ℕ → List ℕ) (started : List ℕ)
+    (size : Between 1 maxRecorders n) (views : ViewsIn n created sets) (inside : EachIn n started) where
+  first-out : (r : ℕ) → Outside n r → firstView started r ≡ 0
+  first-out r o = outsider-first started r (is-false (λ t. not-outside (inside r t) o))
+
+  with-range : InRange (hallWith n created sets started)
+  unfolding hallWith openService openRecorders noSummaries noEntries blankSummary maxEntries maxSequence maxBuffer maxOrder maxPending maxQueue maxNumber
+  with-range =
+      record {
+        size = size;
+        entries = record {
+          atMost = omega arith;
+          senderIn = λ e low high. absurd (omega arith);
+          valueIn = λ e low high. absurd (omega arith);
+          labelIn = λ e low high. absurd (omega arith);
+          blank = λ e o. (refl, refl, refl, refl);
+        };
+        views = views;
+        recorder = λ r low high. recorder-in started r;
+        recorderBlank = λ r o. record {
+          current = first-out r o;
+          phase = refl;
+          known = λ e. refl;
+          nextSeq = refl;
+          buffer = refl;
+          order = refl;
+          safe = λ e. refl;
+          confirm = refl;
+          report = refl;
+          high = first-out r o;
+          heard = λ q. refl;
+          safeSources = λ q. refl;
+        };
+        place = λ p g low high c. record {
+          pendingLength = omega arith;
+          pending = tt;
+          next = omega arith;
+          nextSafe = omega arith;
+          summary = record {
+            known = λ e t. absurd (false≢true t);
+            orderLength = omega arith;
+            order = λ e t. absurd (has-none e t);
+            confirm = omega arith;
+            high = omega arith;
+          };
+          unsent = λ t. refl;
+        };
+        placeBlank = λ p g o. record { pending = refl; next = refl; nextSafe = refl; sent = refl; summary = refl };
+        queueLength = λ g. omega arith;
+        queue = λ g. tt;
+        queueBlank = λ g c. refl;
+      }
+
+-- ## The bytes of a blank hall
+
+-- a table whose values are blank
+blank-table : {A : Type 0} {k : ℕ} (F : Form A k) (ks : List ℕ) (n : ℕ) (d : A) (f : ℕ → A)
+    → length ks ≤ n → ((j : ℕ) → has ks j ≡ true → Blank F (f j)) → Blank (table F ks n d) f
+unfolding table mapped
+blank-table F ks n d f h e =
+    let l = length-map ks f in
+    ap (λ (m : ℕ). cells F m n .encode (map f ks)) (sym l)
+    ∙ blank-cells F n (map f ks) (omega (arith, l)) (all-keys (Blank F) f ks e)
+
+blank-numbered : {A : Type 0} {k : ℕ} (F : Form A k) (n most : ℕ) (d : A) (f : ℕ → A)
+    → n ≤ most → ((j : ℕ) → Blank F (f j)) → Blank (table F (numbers 1 n) most d) f
+blank-numbered F n most d f h e = blank-table F (numbers 1 n) most d f (omega (arith, length-numbers 1 n)) (λ j k. e j)
+
+no-flags : (n : ℕ) → Blank (flags n) (λ j. false)
+unfolding flags
+no-flags n = blank-numbered flag n n false (λ j. false) (omega arith) (λ j. blank-flag)
+
+recorder-zeros : Blank recorderForm blankRecorder
+unfolding recorderForm renamed mapped phaseForm viewNumber entryList blankRecorder
+recorder-zeros =
+    blank-given viewNumber _ 0 _ (blank-number 4 0 0 maxNumber)
+    (blank-given phaseForm _ normal _ (blank-number 1 0 0 2)
+    (blank-given _ _ 1 _ (blank-number 1 1 1 (maxSequence + 1))
+    (blank-given (entryList maxBuffer) _ [] _ (blank-bounded (byte 1 maxEntries) maxBuffer)
+    (blank-given (entryList maxOrder) _ [] _ (blank-bounded (byte 1 maxEntries) maxOrder)
+    (blank-given _ _ 1 _ (blank-number 1 1 1 (maxOrder + 1))
+    (blank-given _ _ 1 _ (blank-number 1 1 1 (maxOrder + 1))
+    (blank-given viewNumber _ 0 _ (blank-number 4 0 0 maxNumber)
+    (blank-given (flags maxEntries) _ _ _ (no-flags maxEntries)
+    (blank-given (flags maxEntries) _ _ _ (no-flags maxEntries)
+    (blank-given (flags maxRecorders) _ _ _ (no-flags maxRecorders) (no-flags maxRecorders)))))))))))
+
+module _ (n : ℕ) (size : Between 1 maxRecorders n) where
+  -- the views and the tables of a blank hall are zero bytes alone
+  blank-views : Blank (viewsForm n) ([], λ g. [])
+  unfolding viewsForm viewList mapped guarded maxViews
+  blank-views = blank-bounded (viewForm n) maxViews
+
+  blank-entries : Blank (entriesForm n) (0, entryAt noEntries)
+  unfolding entriesForm maxEntries numbers
+  blank-entries =
+      blank-given (byte 0 maxEntries) (λ m. table (entryForm n) (numbers 1 m) maxEntries blankEntry) 0 (entryAt noEntries) (blank-number 1 0 0 maxEntries)
+      (blank-table (entryForm n) [] maxEntries blankEntry (entryAt noEntries) (omega arith) (λ e k. absurd (has-none e k)))
+
+  blank-recorders : Blank (recordersForm n) (recorderAt (firstView []) (openRecorders []))
+  unfolding recordersForm maxRecorders recorderAt openRecorders firstView has blankRecorder
+  blank-recorders = blank-numbered recorderForm n maxRecorders blankRecorder _ (size .1) (λ r. recorder-zeros)
+
+  blank-network : (f : ℕ → ℕ → PlaceCell) → Blank (networkForm n []) f
+  unfolding networkForm rowForm maxRecorders maxViews
+  blank-network f =
+      blank-numbered (rowForm []) n maxRecorders (λ g. blankPlace) f (size .1)
+      (λ p. blank-table placeForm [] maxViews blankPlace (f p) (omega arith) (λ g k. absurd (has-none g k)))
+
+  blank-queues : (f : ℕ → List Queued) → Blank (queuesForm []) f
+  unfolding queuesForm maxViews
+  blank-queues f = blank-table queueForm [] maxViews [] f (omega arith) (λ g k. absurd (has-none g k))
+
+  blank-rest : Blank (afterSize n) (fromHall (blankHall n) .1)
+  unfolding afterSize bodyForm blankHall hallWith openService noEntries
+  blank-rest =
+      blank-given (viewsForm n) (bodyForm n) ([], λ g. []) _ blank-views
+      (blank-given (entriesForm n) _ (0, entryAt noEntries) _ blank-entries
+      (blank-given (recordersForm n) _ (recorderAt (firstView []) (openRecorders [])) _ blank-recorders
+      (blank-given (networkForm n []) _ (placeAt (blankHall n .service) noSummaries) _ (blank-network _) (blank-queues _))))
+
+  pub blank-bytes : stored (blankHall n) ≡ n ∷ zeros (storedLength - 1)
+  unfolding stored hallForm guarded hallFields renamed mapped fields given number blankHall hallWith maxRecorders
+  blank-bytes =
+      let e : n - 0 ≡ n = omega arith in
+      ap₂ (λ (x y : List ℕ). x ++ y) (ap (digits 1) e ∙ digits-byte n (omega (arith, size .1))) blank-rest
+
+-- ## The writes
+
+-- zeros up to len, and then the first byte
+first-byte : (b : List ℕ) (len m x : ℕ) → len ≡ suc m → len ≤ length b
+    → sets (sets b 0 (zeros len)) 0 (x ∷ []) ≡ (x ∷ zeros m) ++ drop len b
+first-byte b len m x e h =
+    let l : 0 + length (zeros len) ≡ len = omega (arith, length-replicate {A = ℕ} len 0) in
+    ap (λ (z : List ℕ). sets z 0 (x ∷ [])) (sets-eq (zeros len) b 0 (omega arith) ∙ ap (λ (k : ℕ). zeros len ++ drop k b) l)
+    ∙ ap (λ (k : ℕ). sets (zeros k ++ drop len b) 0 (x ∷ [])) e
+
+-- a view's cell: its number in four bytes, its mask in one
+view-bytes : (n g m : ℕ) → m < 2 ^ n → viewForm n .encode (g, members n m) ≡ digits 4 g ++ digits 1 m
+unfolding viewForm setForm given number mapped
+view-bytes n g m h =
+    let e : g - 0 ≡ g = omega arith in
+    let f : mask (members n m) - 0 ≡ m = omega (arith, mask-members n m h) in
+    ap₂ (λ (x y : ℕ). digits 4 x ++ digits 1 y) e f
+
+module _ (n m : ℕ) (size : Between 1 maxRecorders n) (some-one : 1 ≤ m) (fits : m < 2 ^ n) where
+  not-none : members n m ≡ [] → ⊥
+  not-none = let k = members-nonempty n m fits some-one in not-empty (members n m) (k .0) (k .1)
+
+  blank-range : InRange (blankHall n)
+  unfolding blankHall maxViews rising
+  blank-range =
+      with-range n [] (λ g. []) [] size
+      (record {
+        atMost = omega arith;
+        rises = refl;
+        numberIn = λ g t. absurd (has-none g t);
+        setRises = λ g. refl;
+        setIn = λ g p t. absurd (has-none p t);
+        notEmpty = λ g t. absurd (has-none g t);
+        blank = λ g t. refl;
+      })
+      (λ r t. absurd (has-none r t))
+
+  begun-ok : (k : ℕ) → k ≤ n → hallFields .ok (begun n m k)
+  unfolding begun openHall openService
+  begun-ok k h =
+      fields-ok (begun n m k) .0
+      (with-range n (1 ∷ []) (upd (λ g. []) 1 (members n m)) (members k m) size
+      (open-facts n (members n m) size (rising-members n m) (members-range n m) not-none .views .inRange)
+      (λ r t. let i = members-range k m r t in omega arith))
+
+  blank-length : length (stored (blankHall n)) ≡ storedLength
+  unfolding stored hallForm guarded
+  blank-length = hallFields-lawful .stored (blankHall n) (fields-ok (blankHall n) .0 blank-range) .len
+
+  formed : stored (begun n m 0) ≡ sets (sets (stored (blankHall n)) 2 (viewForm n .encode (1, members n m))) 1 (digits 1 1)
+  unfolding stored hallForm guarded viewForm given number setForm mapped maxNumber maxViews blankHall hallWith digits has
+  formed =
+      ap (hallFields .encode) (sym (begun-none n m))
+      ∙ form-bytes (blankHall n) blank-range 1 refl (omega arith) (members n m)
+      ((omega arith, omega arith), ((rising-members n m, members-range n m), not-none))
+
+  -- forming view 1: its cell, and the count
+  form-first : (rest : List ℕ)
+      → sets (sets (sets (stored (blankHall n) ++ rest) 2 (digits 4 1)) 6 (digits 1 m)) 1 (digits 1 1) ≡ stored (begun n m 0) ++ rest
+  unfolding digits
+  form-first rest =
+      let x = viewForm n .encode (1, members n m) in
+      let s = stored (blankHall n) in
+      let view : 2 + length x ≤ length s = omega (arith, ap length (view-bytes n 1 m fits), blank-length) in
+      let count : 1 + length (digits 1 1) ≤ length (sets s 2 x) = omega (arith, length-sets s 2 x, blank-length) in
+      ap (λ (z : List ℕ). sets z 1 (digits 1 1))
+      (sym (sets-append (s ++ rest) 2 (digits 4 1) (digits 1 m)) ∙ ap (sets (s ++ rest) 2) (sym (view-bytes n 1 m fits)) ∙ sets-append-left s rest 2 x view)
+      ∙ sets-append-left (sets s 2 x) rest 1 (digits 1 1) count
+      ∙ ap (λ (z : List ℕ). z ++ rest) (sym formed)
+
+  -- the hall with view 1 and no recorder started: zeros, N, the view's number and mask, the count
+  pub begin-bytes : (b : List ℕ) (len : ℕ) → len ≡ storedLength → len ≤ length b
+      → sets (sets (sets (sets (sets b 0 (zeros len)) 0 (digits 1 n)) 2 (digits 4 1)) 6 (digits 1 m)) 1 (digits 1 1)
+      ≡ stored (begun n m 0) ++ drop len b
+  unfolding maxRecorders
+  begin-bytes b len e h =
+      ap (λ (z : List ℕ). sets (sets (sets z 2 (digits 4 1)) 6 (digits 1 m)) 1 (digits 1 1))
+      (ap (sets (sets b 0 (zeros len)) 0) (digits-byte n (omega (arith, size .1)))
+      ∙ first-byte b len (storedLength - 1) n e h
+      ∙ ap (λ (z : List ℕ). z ++ drop len b) (sym (blank-bytes n size)))
+      ∙ form-first (drop len b)
+
+  -- recorder k + 1 starts: its cell is written
+  pub start-bytes : (k : ℕ) → k < n → (rest : List ℕ)
+      → sets (stored (begun n m k) ++ rest) (recordersAt + k * recorderSize) (recorderForm .encode (startOf n m (k + 1)))
+      ≡ stored (begun n m (k + 1)) ++ rest
+  unfolding begun hallWith
+  start-bytes k h rest =
+      let more : k + 1 ≡ suc k = add-one k in
+      let last : k ≡ suc k - 1 = omega arith in
+      ap₂ (λ (i r : ℕ). sets (stored (begun n m k) ++ rest) (recordersAt + i * recorderSize) (recorderForm .encode (startOf n m r))) last more
+      ∙ write-piece (begun n m k) (begun-ok k (omega arith)) rest recorder-lawful (recorder-piece (suc k)) (omega arith, h)
+      (startOf n m (suc k)) (start-ok n m (suc k))
+      ∙ ap (λ (g : Hall). stored g ++ rest) (sym (begun-more n m k h) ∙ ap (begun n m) (sym more))
+
+module _ (b : List ℕ) (o : Opening) where
+  -- an opening that is not refused
+  pub taken : openNumber b o ≡ 0 → Taken (o .size) (founderMask o) b
+  unfolding openNumber maxRecorders
+  taken z =
+      let both = chain-none (openRefusal o) _ z in
+      let i = opening-in o (both .0) in
+      let m = founder-mask-in o (i .0 .0) (i .1) in
+      record { size = i .0; founders = m; long = ltb-false (length b) storedLength (not-refused _ _ (both .1)) }

@@ -1,0 +1,9 @@
+pub mod Chain
+pub mod SummariesLaws
+pub mod NumbersLaws
+pub mod Lists
+pub mod FlagsLaws
+pub mod EntriesLaws
+pub mod MessagesLaws
+pub mod PlacesLaws
+pub mod RecordersLaws

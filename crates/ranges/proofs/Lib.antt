@@ -1,0 +1,4 @@
+pub mod Loops
+pub mod Parts
+pub mod TablePartsLaws
+pub mod CellPartsLaws

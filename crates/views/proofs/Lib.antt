@@ -1,0 +1,7 @@
+pub mod Chain
+pub mod Found
+pub mod Heads
+pub mod OutsideLaws
+pub mod PlacingLaws
+pub mod EnteringLaws
+pub mod FormingLaws
