@@ -3,7 +3,8 @@
 //!
 //!     bench --replay PROGRAM --reference PROGRAM [--passes K]
 //!
-//! Every time is the least of K passes, in which both sides take turns.
+//! Every time is the least of K passes, in which both sides take turns. The
+//! table goes to standard output, and notes to standard error.
 
 mod inner;
 mod inputs;
@@ -212,8 +213,8 @@ fn main() {
     let mut full = vec![inputs::full_hall()];
     inputs::checks_agree(&along, &odd);
 
-    println!("seeds 1 and 2 for runs of N = 3 and N = 8, 3 for random halls");
-    println!(
+    eprintln!("seeds 1 and 2 for runs of N = 3 and N = 8, 3 for random halls");
+    eprintln!(
         "microseconds for each call; least of {} passes",
         options.passes
     );
@@ -232,6 +233,6 @@ fn main() {
         );
     }
     if !inner::LINKED {
-        println!("not built: the library bench_api (check alone, step without check)");
+        eprintln!("not built: the library bench_api (check alone, step without check)");
     }
 }

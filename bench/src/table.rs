@@ -1,4 +1,4 @@
-//! The table: one row for each comparison.
+//! The table, in Markdown, on standard output: one row for each comparison.
 
 use std::hint::black_box;
 use std::time::{Duration, Instant};
@@ -27,10 +27,8 @@ fn time<T>(work: impl FnOnce() -> T) -> Duration {
 
 impl Table {
     pub fn new(passes: u32) -> Table {
-        println!(
-            "{:<52} {:>10} {:>10} {:>7}",
-            "", "library", "other", "ratio"
-        );
+        println!("| row | library | other | ratio |");
+        println!("|---|---:|---:|---:|");
         Table { passes }
     }
 
@@ -49,13 +47,6 @@ impl Table {
         let each = |time: Duration| time.as_secs_f64() * 1e6 / row.calls as f64;
         let (library, other) = (each(least.0), each(least.1));
         let ratio = library / other;
-        println!(
-            "{:<52} {library:>10.2} {other:>10.2} {ratio:>7.2}",
-            row.name
-        );
-    }
-
-    pub fn not_built(&self, name: &str) {
-        println!("{name:<52} {:>10}", "not built");
+        println!("| {} | {library:.2} | {other:.2} | {ratio:.2} |", row.name);
     }
 }

@@ -5,11 +5,8 @@ use Rattle.model.specs.Answers as model
 use Rattle.model.specs.Answers.{plain}
 use Rattle.model.specs.Page as modelPage
 use Rattle.model.specs.Page.{plainPage}
-use Rattle.answer.specs.declared.EntryPart.{EntryPart}
-use Rattle.answer.specs.declared.SummaryCounts.{SummaryCounts}
 use Rattle.answer.specs.declared.Content.{Content}
 use Rattle.answer.specs.declared.Message.{Message}
-use Rattle.answer.specs.declared.Sent.{Sent}
 use Rattle.answer.specs.declared.Answer.{Answer}
 use Rattle.answer.specs.declared.PlainAnswer.{PlainAnswer}
 use Rattle.answer.specs.declared.Page.{Page}

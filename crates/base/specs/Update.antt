@@ -1,7 +1,7 @@
 -- Functions of a number, changed at one place.
 -- Assumes nothing.
 use Prim.Native.Nat.{ℕ}
-use mathlib.Core.Bool.{Bool, true, false}
+use mathlib.Core.Bool.{true, false}
 use lib.Dec.{eqb}
 
 -- f with the value x at p

@@ -6,7 +6,7 @@ ghost use lib.ListN.{length, take};
 ghost use Rattle.store.specs.StoredForm.{isStored};
 ghost use Rattle.calls.specs.Calls.{runOn};
 ghost use Rattle.runfile.specs.Answers.{actionsOf};
-ghost use Rattle.step.specs.Steps.{bytesNumber};
+ghost use Rattle.step.specs.Numbers.{bytesNumber};
 use step::bytes_refusal;
 use step::step_hall;
 

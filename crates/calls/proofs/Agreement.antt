@@ -59,16 +59,15 @@ agreement-on b o t ws low =
 steps-sound : (b : List ℕ) (cs : List StepCall) → StepsMet b cs → Sound b (stepsMade b cs) (stepsLeft b cs)
 unfolding stepsMade stepsLeft
 steps-sound b [] met = refl
-steps-sound b (c ∷ cs) met =
-    (
-      inl (record {
-        before = refl;
-        taken = ap accepted (met .0 .answer);
-        after = met .0 .bytes;
-        answer = λ h rest v e k t. met .0 .answer;
-      }),
-      steps-sound (c .bytes) cs (met .1),
-    )
+steps-sound b (c ∷ cs) met = (
+  inl (record {
+    before = refl;
+    taken = ap accepted (met .0 .answer);
+    after = met .0 .bytes;
+    answer = λ h rest v e k t. met .0 .answer;
+  }),
+  steps-sound (c .bytes) cs (met .1),
+)
 
 steps-words : (b : List ℕ) (cs : List StepCall) → map (λ (m : Made). m .words) (stepsMade b cs) ≡ map (λ (c : StepCall). c .words) cs
 unfolding stepsMade

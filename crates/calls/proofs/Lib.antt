@@ -4,3 +4,5 @@ pub mod Refused
 pub mod Runs
 pub mod Agreement
 pub mod ByKindLaws
+pub mod WrongPrograms
+pub mod ByteCards

@@ -1,12 +1,11 @@
 -- What an opening answers and leaves, refused or taken. Assumes nothing.
 use Prim.Native.Nat.{ℕ}
-use mathlib.Core.Path.{_≡_, refl, sym, ap, _∙_}
+use mathlib.Core.Path.{_≡_, sym, ap, _∙_}
 use mathlib.Core.Bool.{Bool, true, false}
 use mathlib.Core.List.{List}
 use lib.Dec.{eqb}
 use borrow.Author.Tests.{eqb-true, eqb-false, eq-eqb, ne-eqb}
 use Rattle.codec.proofs.TableLaws.{by-cases}
-use Rattle.model.specs.Base.{_⨾_}
 use Rattle.model.specs.Opening.{Opening, openRefusal, opened}
 use Rattle.model.proofs.Agreement.Chains.{chain-none}
 use Rattle.calls.specs.Calls.{withHall, OpenOutcome, openNumber, openOn}

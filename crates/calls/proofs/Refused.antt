@@ -16,7 +16,7 @@ use Rattle.model.specs.Actions as actions
 use Rattle.model.specs.Actions.{perform}
 use Rattle.model.specs.Opening.{Opening}
 use Rattle.model.specs.Page.{PageAnswer, plainPage}
-use Rattle.model.specs.Call.{Words, hl3, Stored, hall, call}
+use Rattle.model.specs.Call.{Words, hl3, Stored, hall}
 use Rattle.store.specs.StoredForm.{hallOf, isStored}
 use Rattle.calls.specs.Calls.{withHall, OpenOutcome, openOn, Outcome, stepOn, pageOn}
 use Rattle.calls.specs.ByKind.{kindOn, give}

@@ -1,7 +1,7 @@
 -- Calls that were made, one after another, as a run of the model: each is the definition's step, or is turned down and
 -- changes nothing. Assumes nothing.
 use Prim.Native.Nat.{ℕ, _^_, _<_}
-use mathlib.Core.Path.{_≡_, refl, sym, ap, ap₂, _∙_, subst, fun-ext}
+use mathlib.Core.Path.{_≡_, refl, sym, ap, _∙_, subst, fun-ext}
 use mathlib.Core.Logic.{_⊎_, ⊎-elim}
 use mathlib.Core.Bool.{Bool, true, false, _&&_}
 use mathlib.Core.List.{List, [], _∷_, _++_, map}
@@ -9,11 +9,11 @@ use lib.Dec.{eqb}
 use borrow.Author.Tests.{eqb-true}
 use lib.ListN.{drop}
 use Rattle.model.specs.Hall.{Hall}
-use Rattle.model.specs.Answers.{Answer, accepted}
+use Rattle.model.specs.Answers.{accepted}
 use Rattle.model.specs.Actions.{Outcome}
 use Rattle.model.specs.Opening.{Opening, openRefusal, opened}
 use Rattle.model.specs.Call.{Words, WordsIn, hl3, step}
-use Rattle.model.specs.Run.{run, accepts, collect, itemOf, firstWaiting, atReport, itemsFrom, submitted, labelledAt, delivered, deliverAnswers, History, history}
+use Rattle.model.specs.Run.{run, accepts, collect, firstWaiting, atReport, itemsFrom, submitted, labelledAt, delivered, deliverAnswers, History, history}
 use Rattle.model.specs.Agreed.{Agreed}
 use Rattle.model.proofs.Agreement.Tools.{and-both}
 use Rattle.model.proofs.Agreement.Theorem.{hl3-agreement}

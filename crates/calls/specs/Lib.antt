@@ -4,3 +4,5 @@ pub mod Steps
 pub mod Lent
 pub mod Histories
 pub mod Kept
+pub mod WrongPrograms
+pub mod ByteCards

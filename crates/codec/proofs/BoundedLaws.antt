@@ -1,5 +1,5 @@
 -- Laws of specs/Bounded. Assumes nothing.
-use Prim.Native.Nat.{ℕ, suc, _+_, _-_, _*_, _%_, _≤_, _<_}
+use Prim.Native.Nat.{ℕ, suc, _+_, _-_, _*_, _%_, _<_}
 use native.Mathlib.Omega.{arith}
 use native.Mathlib.Nat.{not-suc-le-zero, le-of-suc-le-suc}
 use mathlib.Core.Path.{_≡_, refl, sym, ap, ap₂, _∙_}
@@ -7,7 +7,7 @@ use mathlib.Core.Bool.{Bool, _&&_}
 use mathlib.Core.List.{List, [], _∷_, _++_, append-assoc}
 use mathlib.Core.Option.{Option, none, some}
 use lib.Dec.{leb, leb·zero, lit<, lit≤}
-use lib.ListN.{length, getD, take, drop, set, length-append, length-take, length-drop, length-set, length-replicate, replicate-append-replicate}
+use lib.ListN.{length, getD, drop, set, length-append, length-replicate, replicate-append-replicate}
 use lib.Seq.{sets}
 use Rattle.codec.specs.Bytes.{zeros, allZero}
 use Rattle.codec.proofs.BytesLaws.{sets-between}
@@ -18,7 +18,7 @@ use Rattle.codec.proofs.NumberLaws.{byte-lawful}
 use Rattle.codec.specs.Pair.{given}
 use Rattle.codec.proofs.PairLaws.{given-lawful}
 use Rattle.base.specs.Lists.{Each}
-use Rattle.codec.proofs.CellsLaws.{suc-cells, Each-append, Each-take, Each-drop, Each-set, encodeAll-append, encodeAll-cons, encodeAll-nil, cells-lawful, block-encodeAll}
+use Rattle.codec.proofs.CellsLaws.{suc-cells, Each-append, encodeAll-append, encodeAll-cons, encodeAll-nil, cells-lawful, block-encodeAll}
 use Rattle.codec.specs.Cells.{encodeAll, validAll, decodeAll, cells}
 use Rattle.codec.proofs.Piece.{View, Piece, head, tail, cell, inner, mapped-view, mapped-piece, restated, whatever}
 use Rattle.codec.specs.Bounded.{Within, counted, bounded, Maybe, toOption, fromOption, optional}

@@ -10,7 +10,6 @@ use lib.Dec.{leb}
 use lib.ListN.{length, getD, take, drop, set, length-take, length-drop}
 use lib.Seq.{sets, take-take}
 use borrow.Author.Tests.{leb-true, le-leb, lt-leb}
-use Rattle.codec.specs.declared.ByteList.{ByteList}
 use Rattle.codec.specs.Bytes.{zeros, part, allZero}
 use Rattle.codec.proofs.BytesLaws.{part-cons, part-rest, drop-part, sets-append}
 use Rattle.codec.specs.Number.{number, byte, between, digits, value}

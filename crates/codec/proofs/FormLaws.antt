@@ -1,4 +1,4 @@
--- Laws of specs/Form. Assumes nothing.
+-- The laws that each stored form keeps. Assumes nothing.
 use Prim.Native.Nat.{ℕ}
 use mathlib.Core.Path.{_≡_, sym, ap, subst, _∙_}
 use mathlib.Core.Bool.{Bool, true, and-eq-true-iff}

@@ -1,5 +1,4 @@
--- Stored forms: how a value stands in a fixed number of bytes, and the laws that each form keeps.
--- Assumes nothing.
+-- Stored forms: how a value stands in a fixed number of bytes. Assumes nothing.
 use Prim.Native.Nat.{ℕ}
 use mathlib.Core.Path.{_≡_}
 use mathlib.Core.Bool.{Bool, true, _&&_}

@@ -1,7 +1,7 @@
 -- Pairs of forms, one after the other. Assumes nothing.
 use Prim.Native.Nat.{ℕ, _+_}
 use mathlib.Core.Bool.{_&&_}
-use mathlib.Core.List.{List, _++_}
+use mathlib.Core.List.{_++_}
 use lib.ListN.{take, drop}
 use Rattle.codec.specs.Form.{Form}
 

@@ -4,12 +4,11 @@ use native.Mathlib.Omega.{arith}
 use native.Mathlib.Numerals.{add-one}
 use mathlib.Core.Path.{_≡_, refl, ap, _∙_}
 use mathlib.Core.List.{List, [], _∷_, _++_}
-use mathlib.Core.Option.{Option, none, some}
+use mathlib.Core.Option.{none, some}
 use lib.ListN.{length, getD, take, drop, set}
 use lib.Seq.{take-suc-set}
 use Rattle.codec.specs.declared.ByteList.{ByteList}
 use Rattle.codec.specs.ByteList.{items}
-use Rattle.lists.specs.declared.Waiting.{Waiting}
 use Rattle.lists.specs.Ends.{firstOf}
 
 module _ (l : ByteList) (full : length (l .places) ≡ 72) where

@@ -2,7 +2,6 @@
 use Prim.Native.Nat.{ℕ}
 use mathlib.Core.List.{List, [], _∷_}
 use mathlib.Core.Option.{Option, none, some}
-use Rattle.codec.specs.declared.ByteList.{ByteList}
 use Rattle.lists.specs.declared.Waiting.{Waiting}
 use Rattle.lists.specs.declared.Waiting.the-variants as waiting
 

@@ -8,7 +8,6 @@ use lib.ListN.{length, take, drop, drop-of-length-le}
 use lib.Seq.{sets, sets-eq, length-take-le}
 use Rattle.codec.proofs.TableLaws.{by-cases}
 use Rattle.model.specs.Hall.{Hall}
-use Rattle.model.specs.Kinds.{Kind, KindWord}
 use Rattle.model.specs.Answers.{Content, Answer, message, refused, Plain, plain}
 use Rattle.model.specs.Page.{PageAnswer, plainPage}
 use Rattle.model.specs.Call.{Words, hl3, Stored, hall, broken, call}
@@ -16,7 +15,6 @@ use Rattle.store.specs.Layout.{storedLength}
 use Rattle.store.specs.StoredForm.{hallOf, isStored}
 use Rattle.store.proofs.StoredFormLaws.{isStored-long, isStored-first, hallOf-first}
 use Rattle.calls.specs.Calls.{held, Outcome, stepOn}
-use Rattle.calls.specs.ByKind.{give}
 use Rattle.calls.specs.Lent.{Lent}
 
 -- a slice that is too short holds no hall

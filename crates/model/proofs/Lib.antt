@@ -1,1 +1,5 @@
+-- The argument for demand 3 in a folder of its own; computed facts beside it.
 pub mod Agreement
+pub mod EndCounts
+pub mod Computing
+pub mod Cards

@@ -1,11 +1,11 @@
 -- Small tools of the definitions: functions changed at one place, tests on lists, and chains of refusals.
 -- Assumes nothing.
-use Prim.Native.Nat.{ℕ, zero, suc, _+_, _-_, max}
-use mathlib.Core.Bool.{Bool, true, false, not, _&&_, _||_}
-use mathlib.Core.List.{List, [], _∷_, _++_}
+use Prim.Native.Nat.{ℕ, _+_, _-_, max}
+use mathlib.Core.Bool.{Bool, true, false, _&&_, _||_}
+use mathlib.Core.List.{List, [], _∷_}
 unfoldable pub use Rattle.base.specs.Update.{upd, upd₂}
-use lib.Dec.{eqb, leb, ltb}
-use lib.ListN.{length, getD}
+use lib.Dec.{eqb, leb}
+use lib.ListN.{getD}
 
 -- does p hold for each element of xs?
 unfoldable pub all : (ℕ → Bool) → List ℕ → Bool

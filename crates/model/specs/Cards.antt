@@ -1,9 +1,8 @@
--- The P cards of 01's "Bench cards": one list under one proof, computed. A card is what the definitions give and what
--- 01 says, as lists of numbers.
+-- The P cards of 01's "Bench cards", one list; the proof over it is in proofs/Cards. A card is what the definitions give and
+-- what 01 says, as lists of numbers.
 -- Assumes nothing.
 use Prim.Native.Nat.{ℕ}
-use mathlib.Core.Path.{_≡_, refl}
-use mathlib.Core.Bool.{Bool, true, false}
+use mathlib.Core.Bool.{true, false}
 use mathlib.Core.List.{List, [], _∷_, _++_, map}
 use Rattle.quorum.specs.Sets.{inMask}
 use Rattle.quorum.specs.Votes.{quorum, builtIn}
@@ -14,7 +13,6 @@ use Rattle.model.specs.Call.{Words, wordsOf, hl3, broken, call}
 use Rattle.model.specs.Run.{run, answers}
 use Rattle.model.specs.RunFile.{RunText, fileBytes}
 use Rattle.model.specs.Listing.{listing}
-use Rattle.model.specs.Computing.{computing}
 
 pub record Card : Type 0 where
   pub given : List ℕ
@@ -161,8 +159,3 @@ cards =
     ∷ orderCard
     ∷ safeCard
     ∷ []
-
--- every card is as 01 says
-pub cards-hold : map (λ c. c .given) cards ≡ map (λ c. c .wanted) cards
-unfolding computing numbersOf quorumCard listingRun listingText listingCard sizeCard foundersCard quorumCards numberCard enterCard labelCalls labelCard orderCard safeCard cards
-cards-hold = refl

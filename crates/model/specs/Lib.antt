@@ -14,6 +14,5 @@ pub mod Run
 pub mod Agreed
 pub mod RunFile
 pub mod Listing
-pub mod Computing
 pub mod Cards
-pub mod WrongHalls
+pub mod EndCounts

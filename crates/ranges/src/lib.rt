@@ -1,4 +1,4 @@
-// Is a byte slice a hall's stored form? (31 of document 01, "A hall's fields".)
+// Is each field of a hall's bytes in its range? (31 of document 01, "A hall's fields"; the cross rules are in validity.)
 ghost use mathlib.Core.Path.{_≡_};
 ghost use mathlib.Core.Bool.{_&&_};
 ghost use Prim.Native.Nat.{_+_, _-_, _*_, _^_, _≤_, _<_};

@@ -1,4 +1,4 @@
--- Laws of specs/Steps. Assumes nothing.
+-- A step on bytes, call by call: 11, 31, 12 to 15, then the kind. Assumes nothing.
 use Prim.Native.Nat.{ℕ, _≤_, _<_}
 use native.Mathlib.Omega.{arith}
 use mathlib.Core.Path.{_≡_, refl, sym, ap, subst, _∙_}
@@ -24,7 +24,7 @@ use Rattle.calls.specs.ByKind.{kindOn, give}
 use Rattle.calls.proofs.ByKindLaws.{actOn, step-by-kind}
 use Rattle.words.specs.Words.{kindAt}
 use Rattle.hall.specs.Acts.{Judged, Does}
-use Rattle.step.specs.Steps.{kindNumber, bytesNumber}
+use Rattle.step.specs.Numbers.{kindNumber, bytesNumber}
 
 -- ## The kind's word
 

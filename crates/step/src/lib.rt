@@ -7,13 +7,12 @@ ghost use Rattle.store.specs.StoredForm.{isStored};
 ghost use Rattle.words.specs.Words.{kindAt};
 ghost use Rattle.hall.specs.Acts.{Judged, Does};
 ghost use Rattle.calls.specs.Steps.{Steps};
-ghost use Rattle.step.specs.Steps.{kindNumber, bytesNumber};
+ghost use Rattle.step.specs.Numbers.{kindNumber, bytesNumber};
 use answer::Answer;
 use client::confirm;
 use client::deliver;
 use client::label;
 use client::submit;
-use words::input_refusal;
 use hall::size;
 use noticing::notice;
 use receiving::receive;
@@ -23,6 +22,7 @@ use validity::is_hall;
 use views::enter;
 use views::form;
 use views::place_message;
+use words::input_refusal;
 
 // Kinds 1 to 4: submit, label, send an entry, send the summary.
 fn act_low(b: &mut [u8], k: u32, r: u32, a: u32, d: u32) -> Answer

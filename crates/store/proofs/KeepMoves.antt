@@ -387,9 +387,10 @@ module _ (rules : Rules) (h : Hall) (f : Facts h) (r q : ℕ) where
         (at-confirm
         (at-order
         (at-high (at-phase told-facts at normal) at _ (built-high rep (h .entries) ms y ok primary g (view-in h f r (c .inView))))
-        at _
-        (ltb-false _ _ (second (completes r ms (told h r q)) _ (c .room) last),
-        names-listed (h .entries) _ (built-names rep (h .entries) ms y ok primary)))
+        at _ (
+          ltb-false _ _ (second (completes r ms (told h r q)) _ (c .room) last),
+          names-listed (h .entries) _ (built-names rep (h .entries) ms y ok primary),
+        ))
         at _ (built-confirm rep (h .entries) ms y ok r (here-member h f r (c .inView))))
         told-sources (c .here)
 

@@ -1,4 +1,5 @@
--- Laws of specs/Masks. Assumes nothing.
+-- The mask of a set and its members determine each other: a rising list within 1 to n is the members of its mask.
+-- Assumes nothing.
 use Prim.Native.Nat.{ℕ, suc, _+_, _-_, _*_, _^_, _≤_, _<_}
 use native.Mathlib.Omega.{arith}
 use native.Mathlib.Nat.{eq-of-mul-eq-mul-left, mul-add, mul-assoc, mul-one, pow-suc}

@@ -1,7 +1,7 @@
 -- Laws of specs/ViewForm. Assumes nothing.
 use Prim.Native.Nat.{ℕ, _≤_}
 use mathlib.Core.Path.{_≡_, refl, sym, ap, ap₂, subst, fun-ext, _∙_}
-use mathlib.Core.Bool.{Bool, true, false, false≢true}
+use mathlib.Core.Bool.{true, false, false≢true}
 use mathlib.Core.List.{List, [], _∷_, map, map-map, map-id}
 use lib.Dec.{lit<, lit≤}
 use lib.ListN.{length-map}

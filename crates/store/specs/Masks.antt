@@ -1,5 +1,4 @@
--- The mask of a set and its members determine each other: a rising list within 1 to n is the members of its mask.
--- Assumes nothing.
+-- A set of recorders, stored as its mask in a byte. Assumes nothing.
 use Prim.Native.Nat.{ℕ, _-_, _^_}
 use mathlib.Core.Path.{_≡_}
 use mathlib.Core.Bool.{true}

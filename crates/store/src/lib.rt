@@ -1,1 +1,1 @@
-// The stored form of a hall: its pieces by value, read from and written to lent bytes, and the check of lent bytes.
+// The stored form of a hall stands in specs/, its laws in proofs/. This crate has no code of its own.

@@ -17,8 +17,6 @@ lastTwoText x y = fieldsAfter (decimal x ∷ decimal y ∷ [])
 abbrev pub labelField : ℕ → ℕ → ℕ → List ℕ
 labelField view seq sender = 32 ∷ labelText view seq sender
 
--- ## The most bytes that each takes with 32-bit numbers
-
 abbrev pub maxDecimal : ℕ
 maxDecimal = 10
 

@@ -1,11 +1,10 @@
 -- What the code's branches and loops go by, for the cross rules. Assumes nothing.
-use Prim.Native.Nat.{ℕ, zero, suc, _+_, _-_, _*_, _≤_, _<_}
+use Prim.Native.Nat.{ℕ, _+_, _-_, _*_, _≤_, _<_}
 use native.Mathlib.Omega.{arith}
 use mathlib.Core.Path.{_≡_, refl, sym, ap, ap₂, _∙_}
 use mathlib.Core.Bool.{Bool, true, false, not, _&&_, _||_, or-true}
 use mathlib.Core.List.{List}
-use lib.Dec.{eqb, ltb, leb}
-use lib.Pow.{areBytes}
+use lib.Dec.{eqb, ltb}
 use lib.ListN.{length, getD, take, set, getD-replicate, List·getD-eq-default}
 use lib.Seq.{getD-set-same, getD-set-other}
 use borrow.Author.Tests.{eq-eqb, ne-eqb, eqb-true, eqb-false, ltb-true, ltb-false, lt-ltb, le-ltb, le-leb, lt-leb}
@@ -18,7 +17,7 @@ use Rattle.codec.proofs.SliceLaws.{areBytes-of}
 use Rattle.codec.proofs.TableLaws.{by-cases}
 use Rattle.quorum.specs.Sets.{has, members}
 use Rattle.model.specs.Ordering.{isLabelled}
-use Rattle.store.specs.Layout.{storedLength, entryCells, entrySize}
+use Rattle.store.specs.Layout.{storedLength}
 use Rattle.store.specs.Valid.{labelledEntry, crossRules}
 use Rattle.store.specs.HallForm.{hallFields, hallForm}
 use Rattle.store.specs.StoredForm.{isStored}

@@ -1,22 +1,22 @@
 -- The hall that bytes in range hold: recorders, places and queues by their bytes. Assumes nothing.
-use Prim.Native.Nat.{ℕ, zero, suc, _+_, _-_, _*_, _≤_, _<_}
+use Prim.Native.Nat.{ℕ, _+_, _-_, _*_, _≤_, _<_}
 use native.Mathlib.Omega.{arith}
-use mathlib.Core.Path.{_≡_, refl, sym, ap, ap₂, subst, _∙_}
-use mathlib.Core.Bool.{Bool, true, false, not, _&&_, and-eq-true-iff, false≢true}
-use mathlib.Core.List.{List, [], _∷_}
-use lib.Dec.{eqb, ltb, leb, lit<}
-use lib.ListN.{length, getD, take, drop}
+use mathlib.Core.Path.{_≡_, refl, sym, ap, subst, _∙_}
+use mathlib.Core.Bool.{Bool, true, false, _&&_, and-eq-true-iff, false≢true}
+use mathlib.Core.List.{List}
+use lib.Dec.{eqb, ltb, leb}
+use lib.ListN.{length, getD, drop}
 use borrow.Author.Tests.{ltb-true, ltb-false, eqb-true, eqb-false, leb-true}
 use Rattle.codec.specs.Bytes.{part}
 use Rattle.codec.specs.Form.{Form}
-use Rattle.codec.specs.Number.{value, byte, mark}
+use Rattle.codec.specs.Number.{byte, mark}
 use Rattle.codec.specs.Cells.{decodeAll, cells}
 use Rattle.codec.specs.Bounded.{bounded}
 use Rattle.codec.specs.Slice.{Held}
 use Rattle.codec.proofs.SliceLaws.{slice-value, slice-valid}
 use Rattle.codec.proofs.TableLaws.{by-cases}
 use Rattle.codec.specs.Table.{flags}
-use Rattle.model.specs.Hall.{maxQueue, Message, Queued, Summary}
+use Rattle.model.specs.Hall.{maxQueue, Message, Summary}
 use Rattle.model.specs.Opening.{blankSummary}
 use Rattle.store.specs.Layout.{recordersAt, recorderSize, placeSize, queuesAt, queueSize}
 use Rattle.store.specs.Cells.{recorderAt, placeAt}
@@ -25,13 +25,12 @@ use Rattle.store.proofs.CellFormsLaws.{recorder-lawful, place-lawful, queue-law
 use Rattle.store.specs.HallForm.{hallFields}
 use Rattle.store.proofs.HallFormLaws.{hallFields-lawful}
 use Rattle.store.proofs.Pieces.{recorder-piece, place-piece, queue-piece}
-use Rattle.ranges.proofs.Loops.{bounded-part, bounded-over, bounded-value}
+use Rattle.ranges.proofs.Loops.{bounded-part, bounded-value}
 use Rattle.ranges.proofs.CellPartsLaws.{recorder-part, place-part, sent-over, sent-some, summary-part}
 use Rattle.ranges.specs.CellParts.{recorderRest}
 use Rattle.validity.specs.Alls.{viewAt}
-use Rattle.validity.specs.Marks.{flagAt, placeOff, sentAt}
-use Rattle.validity.proofs.MarksLaws.{flags-at}
-use Rattle.validity.proofs.Values.{viewNumber-value, recorder-value, place-value, unsent-value, sent-value}
+use Rattle.validity.specs.Marks.{placeOff, sentAt}
+use Rattle.validity.proofs.Values.{place-value, unsent-value, sent-value}
 use Rattle.validity.specs.RawHall.{raw, sizeAt, viewCount}
 use Rattle.validity.proofs.RawHallLaws.{long, size-in, views-in, raw-size, view-formed, view-place}
 

@@ -1,7 +1,7 @@
 -- Loops that test each number of a list. Assumes nothing.
 use Prim.Native.Nat.{ℕ, _+_, _*_, _≤_, _<_}
 use mathlib.Core.Path.{_≡_}
-use mathlib.Core.Bool.{Bool, false}
+use mathlib.Core.Bool.{false}
 use mathlib.Core.List.{List}
 use Rattle.codec.specs.Bytes.{part}
 use Rattle.codec.specs.Number.{value}

@@ -1,4 +1,5 @@
--- Laws of specs/Words. Assumes nothing.
+-- The words of a kind, as the code judges them: 01's chain with the tests that a kind does not use left out.
+-- Assumes nothing.
 use Prim.Native.Nat.{ℕ, _*_, _/_, _^_, _≤_, _<_}
 use native.Mathlib.Omega.{arith}
 use mathlib.Core.Path.{_≡_, refl, sym, ap, ap₂, _∙_}
@@ -10,7 +11,6 @@ use Rattle.quorum.specs.Sets.{filter, recorders}
 use Rattle.quorum.proofs.SetLaws.{all-recorders}
 use lib.Dec.{eqb, leb}
 use borrow.Author.Tests.{eq-eqb, ne-eqb, le-leb, lt-leb, leb-false}
-use mathlib.Core.List.{List}
 use Rattle.model.specs.Base.{within, refuse, _⨾_}
 use Rattle.model.specs.Hall.{maxNumber}
 use Rattle.model.proofs.Agreement.Tools.{same?, true-or-false}

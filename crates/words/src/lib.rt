@@ -1,4 +1,5 @@
-// The refusals 12 to 15, "because of the input".
+// The refusals 12 to 15, "because of the input". These functions are for the crates of this repository: a `requires` is met
+// by each caller's proof.
 ghost use mathlib.Core.Path.{_≡_};
 ghost use mathlib.Core.Bool.{not, _||_};
 ghost use Prim.Native.Nat.{_^_, _≤_};
@@ -68,7 +69,7 @@ fn first(a: u32, b: u32) -> u32
     if a == 0 { b } else { a }
 }
 
-// 12 to 15 of a kind, rising, in a hall of n recorders: one table of kinds says which words each uses.
+// 12 to 15 of a kind, rising, in a hall of n recorders: for each kind the tests that the model's table of kinds asks for.
 pub fn input_refusal(n: u32, k: u32, r: u32, a: u32, b: u32) -> u32
     requires { ⌜ n ≤ 8 ⌝ }
     requires { ⌜ 1 ≤ k ⌝ }
@@ -92,7 +93,7 @@ pub fn input_refusal(n: u32, k: u32, r: u32, a: u32, b: u32) -> u32
     first(here, stray_refusal(a, b))
 }
 
-// 12: R is "not 0 where unused"
+// 12 of a kind that does not use R: R is "not 0 where unused"
 fn if_used(r: u32) -> u32
     ensures { λ x. ⌜ x ≡ refuse (not (eqb r 0)) 12 ⌝ }
 {

@@ -1,14 +1,10 @@
--- A step on bytes, call by call: 11, 31, 12 to 15, then the kind. Assumes nothing.
+-- 11 and 31 as the code tells them: the number of the refusal, 0 for none. Assumes nothing.
 use Prim.Native.Nat.{ℕ}
-use mathlib.Core.Bool.{Bool, true, false}
+use mathlib.Core.Bool.{true, false}
 use mathlib.Core.List.{List}
-use lib.ListN.{List·getD-eq-default}
 use Rattle.model.specs.Kinds.{KindWord, kind, noKind, kindOf}
 use Rattle.model.specs.Call.{Words}
 use Rattle.store.specs.StoredForm.{isStored}
-use Rattle.answer.specs.declared.Answer.{Answer}
-
--- ## The kind's word
 
 -- 11: "K is not 1 to 11"
 unfoldable pub kindNumber : ℕ → ℕ
