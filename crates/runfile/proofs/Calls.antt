@@ -8,23 +8,18 @@ use mathlib.Core.Option.{Option, none, some}
 use lib.ListN.{length, drop, replicate}
 use lib.Seq.{drop-drop}
 use Rattle.model.specs.Call.{Words}
-use Rattle.model.specs.RunFile.{blockAt, blocksAt, RunText, trailerOf, runPart, readText, Reading, readFile}
-use Rattle.runfile.specs.declared.RunOpening.{RunOpening}
-use Rattle.runfile.specs.declared.OpenRead.the-variants.{Opened}
-use Rattle.runfile.specs.declared.Next.{Next}
-use Rattle.runfile.specs.declared.Next.the-variants.{Act, End}
-use Rattle.runfile.specs.Answers.{actionWords, opened, nextAt}
+use Rattle.model.specs.RunFile.{blockAt, blocksAt, RunText, trailerOf, runPart, readText, Reading, readFile, ReadAnswer, readAnswer, NextAnswer, nextAt}
 use Rattle.runfile.proofs.Read.{readable, taken, opened-run, next-end, next-act}
 
 -- what a call gives: an action, or none at the end
-abbrev pub got : Next → Option Words
-got (Act x next) = some (actionWords x)
-got End = none
+abbrev pub got : NextAnswer → Option Words
+got (NextAnswer.action w next) = some w
+got NextAnswer.end = none
 
 -- the offset of the call after it
-abbrev pub after : ℕ → Next → ℕ
-after at (Act x next) = next
-after at End = at
+abbrev pub after : ℕ → NextAnswer → ℕ
+after at (NextAnswer.action w next) = next
+after at NextAnswer.end = at
 
 -- what n calls give, one after the other, the first at an offset
 unfoldable pub calls : ℕ → List ℕ → ℕ → List (Option Words)
@@ -36,7 +31,7 @@ at-end : (n : ℕ) (bs : List ℕ) (at : ℕ) → at + 16 ≡ length bs → call
 unfolding calls
 at-end zero bs at h = refl
 at-end (suc n) bs at h =
-    ap (λ (t : Next). got t ∷ calls n bs (after at t)) (next-end bs at (omega arith))
+    ap (λ (t : NextAnswer). got t ∷ calls n bs (after at t)) (next-end bs at (omega arith))
     ∙ ap (λ (z : List (Option Words)). none ∷ z) (at-end n bs at h)
 
 -- c actions are left: they are given, and then the end n times
@@ -46,25 +41,27 @@ unfolding calls blocksAt
 all-given zero n bs at h = ap (λ (m : ℕ). calls m bs at) (zero-add n) ∙ at-end n bs at (omega arith)
 all-given (suc c) n bs at h =
     ap (λ (m : ℕ). calls m bs at) (suc-add c n)
-    ∙ ap (λ (t : Next). got t ∷ calls (c + n) bs (after at t)) (next-act bs at (omega arith))
+    ∙ ap (λ (t : NextAnswer). got t ∷ calls (c + n) bs (after at t)) (next-act bs at (omega arith))
     ∙ ap (λ (z : List (Option Words)). some (blockAt (drop at bs)) ∷ z)
     (all-given c n bs (at + 16) (omega arith)
     ∙ ap (λ (z : List ℕ). map some (blocksAt c z) ++ replicate n none) (sym (drop-drop 16 at bs)))
 
 -- From the opening that reading gives: the calls from its start give the file's actions, and then the end at every
 -- further call.
-pub reads-all : (bs : List ℕ) (x : RunText) (o : RunOpening) → readFile bs ≡ Reading.text x → opened bs (readFile bs) ≡ Opened o
-    → (n : ℕ) → calls (o .count + n) bs (o .start) ≡ map some (x .actions) ++ replicate n none
+pub reads-all : (bs : List ℕ) (x : RunText) (size founders start count : ℕ) → readFile bs ≡ Reading.text x
+    → readAnswer bs (readFile bs) ≡ ReadAnswer.opened size founders start count
+    → (n : ℕ) → calls (count + n) bs start ≡ map some (x .actions) ++ replicate n none
 unfolding readText runPart
-reads-all bs x o e f n =
+reads-all bs x size founders start count e f n =
     let t = trailerOf bs in
     let k = taken bs x e in
     let g = readable bs (k .sound) in
-    let z : Opened o ≡ Opened (record { size = blockAt (runPart bs) .k; founders = blockAt (runPart bs) .r; start = length bs - t .k + 16; count = t .r }) =
-    sym f ∙ ap (opened bs) (e ∙ ap Reading.text (k .same)) ∙ opened-run bs (k .sound) in
-    let count : o .count ≡ t .r = cc in
-    let start : o .start ≡ length bs - t .k + 16 = cc in
-    ap₂ (λ (c s : ℕ). calls (c + n) bs s) count start
+    let o = blockAt (runPart bs) in
+    let z : ReadAnswer.opened size founders start count ≡ ReadAnswer.opened (o .k) (o .r) (length bs - t .k + 16) (t .r) =
+    sym f ∙ ap (readAnswer bs) (e ∙ ap Reading.text (k .same)) ∙ opened-run bs (k .sound) in
+    let many : count ≡ t .r = cc in
+    let from : start ≡ length bs - t .k + 16 = cc in
+    ap₂ (λ (c s : ℕ). calls (c + n) bs s) many from
     ∙ all-given (t .r) n bs (length bs - t .k + 16) (omega (arith, g .trailer .back, g .trailer .inside))
     ∙ ap (λ (z : List ℕ). map some (blocksAt (t .r) z) ++ replicate n none) (sym (drop-drop 16 (length bs - t .k) bs))
     ∙ ap (λ (y : RunText). map some (y .actions) ++ replicate n none) (sym (k .same))

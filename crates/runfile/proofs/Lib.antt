@@ -3,3 +3,4 @@ pub mod Calls
 pub mod Theorems
 pub mod Read
 pub mod WriteLaws
+pub mod Cases

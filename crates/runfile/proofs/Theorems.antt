@@ -9,12 +9,14 @@ use lib.Dec.{eqb, lit<}
 use lib.ListN.{length, getD, take, drop, length-append, length-drop, take-append-drop}
 use lib.Seq.{sets, sets-eq, take-at, drop-at, take-all, drop-drop, drop-append-add}
 use borrow.Author.Tests.{eqb-true}
+use Rattle.base.specs.Lists.{Each}
 use Rattle.model.specs.Base.{refuse, _⨾_}
 use Rattle.model.specs.Opening.{wrongOpening, openRefusal}
 use Rattle.model.specs.Call.{Words, wordsOf}
 use Rattle.model.specs.RunFile.{maxFile, blockAt, blockBytes, blocksAt, blocksBytes, RunText, distance, trailerOf, runPart, brokenFile, readText, Reading, readRefusal, readFile, fileBytes, WriteAnswer, writeFile}
 use Rattle.runfile.specs.Answers.{trailerFor, restZero, actionsOf, runOf}
-use Rattle.runfile.proofs.Blocks.{Bytes, bytes-drop, Small, AllSmall, length-blockBytes, length-blocksBytes, length-blocksAt, bytes-block, block-bytes, bytes-blocks, blocks-bytes}
+use Rattle.runfile.specs.InRange.{Bytes, Small, SmallRun}
+use Rattle.runfile.proofs.Blocks.{bytes-drop, length-blockBytes, length-blocksBytes, length-blocksAt, bytes-block, block-bytes, bytes-blocks, blocks-bytes}
 use Rattle.runfile.proofs.Read.{Readable, readable, not-broken, read-text, taken}
 use Rattle.runfile.proofs.WriteLaws.{written-when, write-run}
 
@@ -81,12 +83,6 @@ earlier-bytes pre f e h =
     (t, reading (pre ++ f) f (not-broken (pre ++ f) (still pre f g h) ∙ sym e) t)
 
 -- ## "It reads back as the same opening and actions"
-
--- every word of a run is below 2^32
-pub record SmallRun (x : RunText) : Type 0 where
-  pub size : x .opening .size < 2 ^ 32
-  pub founders : x .opening .founders < 2 ^ 32
-  pub actions : AllSmall (x .actions)
 
 module _ (x : RunText) (s : SmallRun x) (many : length (x .actions) ≤ 4094) where
   abbrev n : ℕ
@@ -162,7 +158,7 @@ pub small-run : (n f : ℕ) (ws : List ℕ) → n < 2 ^ 32 → f < 2 ^ 32 → ((
 unfolding actionsOf
 small-run n f ws h k s = record { size = h; founders = k; actions = all ws s }
   where
-    all : (ws : List ℕ) → ((i : ℕ) → getD ws i 0 < 2 ^ 32) → AllSmall (actionsOf ws)
+    all : (ws : List ℕ) → ((i : ℕ) → getD ws i 0 < 2 ^ 32) → Each Small (actionsOf ws)
     all [] s = tt
     all (k ∷ []) s = tt
     all (k ∷ r ∷ []) s = tt
