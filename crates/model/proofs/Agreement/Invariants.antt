@@ -1,16 +1,14 @@
 -- The invariants of a hall reached from opening, in groups over just the functions they speak of. The letters are those
 -- of docs/agreement.md.
 -- Assumes nothing.
-use Prim.Native.Nat.{ℕ, suc, _+_, _-_, _≤_, _<_}
+use Prim.Native.Nat.{ℕ, _+_, _-_, _≤_, _<_}
 use mathlib.Core.Path.{_≡_}
 use mathlib.Core.Logic.{_⊎_}
 use mathlib.Core.Bool.{Bool, true, false}
-use mathlib.Core.List.{List, [], _∷_, _++_}
-use lib.Dec.{eqb}
+use mathlib.Core.List.{List, [], _++_}
 use lib.ListN.{length, take}
 use Rattle.quorum.specs.Sets.{has}
 use Rattle.model.specs.Hall.{Entries, Message, Queued, Service, Summary, Summaries, Phase, normal, send, collect, Recorders, Hall}
-use Rattle.model.specs.Ordering.{Choice}
 use Rattle.model.specs.Refusals.{Rules, isPrimary}
 use Rattle.model.specs.Run.{Begins}
 use Rattle.model.proofs.Agreement.State.{entriesIn, entriesFrom, summaryIn, entriesOf, hasSummary, received, noticed, Est, full, built, Labelled, Before, InRow, Tidy}
