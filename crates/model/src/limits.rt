@@ -1,0 +1,22 @@
+// How much of each thing a hall holds, and how far numbers run (specs/Hall, under the same names).
+
+// "Entries, at most 64 ever submitted"; a sequence number is 1 to 64; buffer and order hold at most 64 labels each
+pub const MAX_ENTRIES: usize = 64;
+
+pub const MAX_SEQUENCE: usize = 64;
+
+pub const MAX_BUFFER: usize = MAX_ENTRIES;
+
+pub const MAX_ORDER: usize = MAX_ENTRIES;
+
+// "the formed views, at most 32"; "Numbers run from 1 to 255"
+pub const MAX_VIEWS: usize = 32;
+
+pub const MAX_NUMBER: u32 = 255;
+
+// "a pending list (at most 65 messages)"; "A view's queue holds at most 72 messages"; "N, 1 to 8"
+pub const MAX_PENDING: usize = 65;
+
+pub const MAX_QUEUE: usize = 72;
+
+pub const MAX_RECORDERS: usize = 8;

@@ -1,0 +1,100 @@
+// Where each part of a hall stands in its stored form, in bytes (specs/Layout, docs/stored-form.md): each offset comes from
+// the one before it. Each table has a fixed number of cells of one size, so that cell i of it stands at the table's offset
+// plus i times the size.
+use model::limits::MAX_BUFFER;
+use model::limits::MAX_ENTRIES;
+use model::limits::MAX_ORDER;
+use model::limits::MAX_PENDING;
+use model::limits::MAX_QUEUE;
+use model::limits::MAX_RECORDERS;
+use model::limits::MAX_VIEWS;
+
+// A view number, a word.
+pub const NUMBER: usize = 4;
+
+pub const WORD: usize = 4;
+
+// A formed view: number, set.
+pub const VIEW_SET: usize = NUMBER;
+
+pub const VIEW: usize = VIEW_SET + 1;
+
+// An entry: sender, value, label view, label sequence number.
+pub const ENTRY_PAYLOAD: usize = 1;
+
+pub const ENTRY_LABEL: usize = ENTRY_PAYLOAD + WORD;
+
+pub const ENTRY_SEQUENCE: usize = ENTRY_LABEL + NUMBER;
+
+pub const ENTRY: usize = ENTRY_SEQUENCE + 1;
+
+// A recorder: current view, phase, next sequence number, buffer, order, confirm mark, report mark, highest primary, known,
+// safe, heard, safe sources.
+pub const RECORDER_PHASE: usize = NUMBER;
+
+pub const RECORDER_SEQUENCE: usize = RECORDER_PHASE + 1;
+
+pub const RECORDER_BUFFER: usize = RECORDER_SEQUENCE + 1;
+
+pub const RECORDER_ORDER: usize = RECORDER_BUFFER + 1 + MAX_BUFFER;
+
+pub const RECORDER_CONFIRM: usize = RECORDER_ORDER + 1 + MAX_ORDER;
+
+pub const RECORDER_REPORT: usize = RECORDER_CONFIRM + 1;
+
+pub const RECORDER_HIGH: usize = RECORDER_REPORT + 1;
+
+pub const RECORDER_KNOWN: usize = RECORDER_HIGH + NUMBER;
+
+pub const RECORDER_SAFE: usize = RECORDER_KNOWN + MAX_ENTRIES;
+
+pub const RECORDER_HEARD: usize = RECORDER_SAFE + MAX_ENTRIES;
+
+pub const RECORDER_SAFE_SOURCES: usize = RECORDER_HEARD + MAX_RECORDERS;
+
+pub const RECORDER: usize = RECORDER_SAFE_SOURCES + MAX_RECORDERS;
+
+// A summary: known, order, confirm mark, highest primary.
+pub const SUMMARY_ORDER: usize = MAX_ENTRIES;
+
+pub const SUMMARY_CONFIRM: usize = SUMMARY_ORDER + 1 + MAX_ORDER;
+
+pub const SUMMARY_HIGH: usize = SUMMARY_CONFIRM + 1;
+
+pub const SUMMARY: usize = SUMMARY_HIGH + NUMBER;
+
+// A recorder's place in a view: pending, receive mark, safe mark, sent, summary.
+pub const PLACE_NEXT: usize = 1 + MAX_PENDING;
+
+pub const PLACE_NEXT_SAFE: usize = PLACE_NEXT + 1;
+
+pub const PLACE_SENT: usize = PLACE_NEXT_SAFE + 1;
+
+pub const PLACE_SUMMARY: usize = PLACE_SENT + 1;
+
+pub const PLACE: usize = PLACE_SUMMARY + SUMMARY;
+
+pub const ROW: usize = MAX_VIEWS * PLACE;
+
+// A queue: its length, and messages of two bytes: source, message.
+pub const QUEUED: usize = 2;
+
+pub const QUEUE: usize = 1 + MAX_QUEUE * QUEUED;
+
+// The whole: N; the formed views, their count first; the entries, their count first; the recorders, recorder r in cell
+// r - 1; the network, a row of places for each recorder, by place among the formed views; the queues, by place likewise.
+pub const VIEW_COUNT: usize = 1;
+
+pub const VIEWS: usize = VIEW_COUNT + 1;
+
+pub const ENTRY_COUNT: usize = VIEWS + MAX_VIEWS * VIEW;
+
+pub const ENTRIES: usize = ENTRY_COUNT + 1;
+
+pub const RECORDERS: usize = ENTRIES + MAX_ENTRIES * ENTRY;
+
+pub const NETWORK: usize = RECORDERS + MAX_RECORDERS * RECORDER;
+
+pub const QUEUES: usize = NETWORK + MAX_RECORDERS * ROW;
+
+pub const LENGTH: usize = QUEUES + MAX_VIEWS * QUEUE;
