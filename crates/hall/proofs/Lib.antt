@@ -4,4 +4,5 @@ pub mod Writes
 pub mod AtRecorderLaws
 pub mod Changing
 pub mod ActsLaws
+pub mod Acting
 pub mod Changes

@@ -2,7 +2,7 @@
 use Prim.Native.Nat.{ℕ, zero, suc, _+_, _-_, _<_}
 use native.Mathlib.Omega.{arith}
 use native.Mathlib.Numerals.{add-one}
-use mathlib.Core.Path.{_≡_, refl, ap, _∙_}
+use mathlib.Core.Path.{_≡_, refl, sym, ap, _∙_}
 use mathlib.Core.List.{List, [], _∷_, _++_}
 use mathlib.Core.Option.{none, some}
 use lib.ListN.{length, getD, take, drop, set}
@@ -41,3 +41,26 @@ popped [] (suc n) h = let e : suc n - 1 ≡ n = omega arith in ap (λ (m : ℕ).
 popped (x ∷ xs) (suc n) h =
     let e : suc n - 1 ≡ n = omega arith in
     ap (λ (m : ℕ). take m xs) e
+
+-- ## What the first element tells of the list
+
+no-value : {x : ℕ} → none ≡ some x → ⊥
+no-value r = let z : _≡_ {A = ℕ} 0 1 = cc in omega arith
+
+pub first-lacks : (xs : List ℕ) → firstOf xs ≡ none → xs ≡ []
+unfolding firstOf
+first-lacks [] e = refl
+first-lacks (x ∷ xs) e = absurd (no-value (sym e))
+
+pub first-stands : (xs : List ℕ) (x : ℕ) → firstOf xs ≡ some x → xs ≡ x ∷ drop 1 xs
+unfolding firstOf
+first-stands [] x e = absurd (no-value e)
+first-stands (y ∷ ys) x e = let q : y ≡ x = cc in ap (λ (z : ℕ). z ∷ ys) q
+
+pub list-waits : (l : ByteList) (x : ℕ) → firstOf (items l) ≡ some x → 0 < l .len
+unfolding firstOf
+list-waits l x e = go (l .len) e
+  where
+    go : (n : ℕ) → firstOf (take n (l .places)) ≡ some x → 0 < n
+    go zero e = absurd (no-value e)
+    go (suc n) e = omega arith

@@ -1,4 +1,3 @@
 pub mod Summary
-pub mod Both
 pub mod Entry
 pub mod ValuesLaws
