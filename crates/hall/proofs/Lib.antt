@@ -1,7 +1,6 @@
 pub mod Keys
 pub mod ReadsLaws
 pub mod Writes
-pub mod AtRecorderLaws
 pub mod Changing
 pub mod ActsLaws
 pub mod Acting

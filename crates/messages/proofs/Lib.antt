@@ -1,4 +1,3 @@
-pub mod Acting
 pub mod MembersLaws
 pub mod ContentsLaws
 pub mod CurrentLaws

@@ -1,3 +1,2 @@
 pub mod Members
 pub mod Contents
-pub mod Current
