@@ -1,6 +1,5 @@
 pub mod Chain
 pub mod Found
-pub mod Heads
 pub mod OutsideLaws
 pub mod PlacingLaws
 pub mod EnteringLaws
