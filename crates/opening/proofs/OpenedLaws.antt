@@ -25,7 +25,7 @@ use Rattle.codec.proofs.TableLaws.{all-keys, length-numbers}
 use Rattle.codec.proofs.SliceLaws.{sets-append-left}
 use Rattle.quorum.specs.Sets.{recorders, filter, inMask, members, mask, has, rising}
 use Rattle.quorum.proofs.SetLaws.{has-there, has-append, has-filter, has-members, recorders-range, members-range, members-nonempty, rising-recorders, rising-members, mask-append, mask-members}
-use Rattle.model.specs.Hall.{maxEntries, maxSequence, maxBuffer, maxOrder, maxViews, maxNumber, maxPending, maxQueue, maxRecorders, Queued, normal, Hall}
+use Rattle.model.specs.Hall.{maxEntries, maxSequence, maxBuffer, maxOrder, maxViews, maxNumber, maxRecorders, Queued, normal, Hall}
 use Rattle.model.specs.Fields.{setCurrent, setService}
 use Rattle.model.specs.Service.{createview}
 use Rattle.model.specs.Opening.{Opening, openRefusal, founderSet, noEntries, blankSummary, noSummaries, firstView, openService, openRecorders, openHall, opened}
@@ -149,7 +149,7 @@ begun-more n m k h =
 
 -- each of them has its fields in range
 recorder-in : (started : List ℕ) (r : ℕ) → RecorderIn (firstView started) (openRecorders started) r
-unfolding openRecorders maxEntries maxSequence maxBuffer maxOrder maxNumber
+unfolding openRecorders
 recorder-in started r =
     let first : firstView started r ≤ 255 =
     ⊎-elim (λ t. rw (founder-first started r t) (omega arith)) (λ f. rw (outsider-first started r f) (omega arith))
@@ -180,7 +180,7 @@ module _ (n : ℕ) (created : List ℕ) (sets : ℕ → List ℕ) (started : Lis
   first-out r o = outsider-first started r (is-false (λ t. not-outside (inside r t) o))
 
   with-range : InRange (hallWith n created sets started)
-  unfolding hallWith openService openRecorders noSummaries noEntries blankSummary maxEntries maxSequence maxBuffer maxOrder maxPending maxQueue maxNumber
+  unfolding hallWith openService openRecorders noSummaries noEntries blankSummary
   with-range =
       record {
         size = size;
@@ -264,27 +264,27 @@ recorder-zeros =
 module _ (n : ℕ) (size : Between 1 maxRecorders n) where
   -- the views and the tables of a blank hall are zero bytes alone
   blank-views : Blank (viewsForm n) ([], λ g. [])
-  unfolding viewsForm viewList mapped guarded maxViews
+  unfolding viewsForm viewList mapped guarded
   blank-views = blank-bounded (viewForm n) maxViews
 
   blank-entries : Blank (entriesForm n) (0, entryAt noEntries)
-  unfolding entriesForm maxEntries numbers
+  unfolding entriesForm numbers
   blank-entries =
       blank-given (byte 0 maxEntries) (λ m. table (entryForm n) (numbers 1 m) maxEntries blankEntry) 0 (entryAt noEntries) (blank-number 1 0 0 maxEntries)
       (blank-table (entryForm n) [] maxEntries blankEntry (entryAt noEntries) (omega arith) (λ e k. absurd (has-none e k)))
 
   blank-recorders : Blank (recordersForm n) (recorderAt (firstView []) (openRecorders []))
-  unfolding recordersForm maxRecorders recorderAt openRecorders firstView has blankRecorder
+  unfolding recordersForm recorderAt openRecorders firstView has blankRecorder
   blank-recorders = blank-numbered recorderForm n maxRecorders blankRecorder _ (size .1) (λ r. recorder-zeros)
 
   blank-network : (f : ℕ → ℕ → PlaceCell) → Blank (networkForm n []) f
-  unfolding networkForm rowForm maxRecorders maxViews
+  unfolding networkForm rowForm
   blank-network f =
       blank-numbered (rowForm []) n maxRecorders (λ g. blankPlace) f (size .1)
       (λ p. blank-table placeForm [] maxViews blankPlace (f p) (omega arith) (λ g k. absurd (has-none g k)))
 
   blank-queues : (f : ℕ → List Queued) → Blank (queuesForm []) f
-  unfolding queuesForm maxViews
+  unfolding queuesForm
   blank-queues f = blank-table queueForm [] maxViews [] f (omega arith) (λ g k. absurd (has-none g k))
 
   blank-rest : Blank (afterSize n) (fromHall (blankHall n) .1)
@@ -296,7 +296,7 @@ module _ (n : ℕ) (size : Between 1 maxRecorders n) where
       (blank-given (networkForm n []) _ (placeAt (blankHall n .service) noSummaries) _ (blank-network _) (blank-queues _))))
 
   pub blank-bytes : stored (blankHall n) ≡ n ∷ zeros (storedLength - 1)
-  unfolding stored hallForm guarded hallFields renamed mapped fields given number blankHall hallWith maxRecorders
+  unfolding stored hallForm guarded hallFields renamed mapped fields given number blankHall hallWith
   blank-bytes =
       let e : n - 0 ≡ n = omega arith in
       ap₂ (λ (x y : List ℕ). x ++ y) (ap (digits 1) e ∙ digits-byte n (omega (arith, size .1))) blank-rest
@@ -324,7 +324,7 @@ module _ (n m : ℕ) (size : Between 1 maxRecorders n) (some-one : 1 ≤ m) (fit
   not-none = let k = members-nonempty n m fits some-one in not-empty (members n m) (k .0) (k .1)
 
   blank-range : InRange (blankHall n)
-  unfolding blankHall maxViews rising
+  unfolding blankHall rising
   blank-range =
       with-range n [] (λ g. []) [] size
       (record {
@@ -351,7 +351,7 @@ module _ (n m : ℕ) (size : Between 1 maxRecorders n) (some-one : 1 ≤ m) (fit
   blank-length = hallFields-lawful .stored (blankHall n) (fields-ok (blankHall n) .0 blank-range) .len
 
   formed : stored (begun n m 0) ≡ sets (sets (stored (blankHall n)) 2 (viewForm n .encode (1, members n m))) 1 (digits 1 1)
-  unfolding stored hallForm guarded viewForm given number setForm mapped maxNumber maxViews blankHall hallWith digits has
+  unfolding stored hallForm guarded viewForm given number setForm mapped blankHall hallWith digits has
   formed =
       ap (hallFields .encode) (sym (begun-none n m))
       ∙ form-bytes (blankHall n) blank-range 1 refl (omega arith) (members n m)
@@ -375,7 +375,6 @@ module _ (n m : ℕ) (size : Between 1 maxRecorders n) (some-one : 1 ≤ m) (fit
   pub begin-bytes : (b : List ℕ) (len : ℕ) → len ≡ storedLength → len ≤ length b
       → sets (sets (sets (sets (sets b 0 (zeros len)) 0 (digits 1 n)) 2 (digits 4 1)) 6 (digits 1 m)) 1 (digits 1 1)
       ≡ stored (begun n m 0) ++ drop len b
-  unfolding maxRecorders
   begin-bytes b len e h =
       ap (λ (z : List ℕ). sets (sets (sets z 2 (digits 4 1)) 6 (digits 1 m)) 1 (digits 1 1))
       (ap (sets (sets b 0 (zeros len)) 0) (digits-byte n (omega (arith, size .1)))
@@ -399,7 +398,7 @@ module _ (n m : ℕ) (size : Between 1 maxRecorders n) (some-one : 1 ≤ m) (fit
 module _ (b : List ℕ) (o : Opening) where
   -- an opening that is not refused
   pub taken : openNumber b o ≡ 0 → Taken (o .size) (founderMask o) b
-  unfolding openNumber maxRecorders
+  unfolding openNumber
   taken z =
       let both = chain-none (openRefusal o) _ z in
       let i = opening-in o (both .0) in

@@ -11,7 +11,7 @@ use borrow.Author.Tests.{le-leb, lt-leb, eq-eqb, ne-eqb}
 use Rattle.quorum.specs.Sets.{inMask, members, has}
 use Rattle.quorum.proofs.SetLaws.{has-members}
 use Rattle.model.specs.Base.{within, refuse, _⨾_}
-use Rattle.model.specs.Hall.{maxRecorders, Hall}
+use Rattle.model.specs.Hall.{Hall}
 use Rattle.model.specs.Opening.{openingOf, wrongOpening, openRefusal, opened}
 use Rattle.store.specs.Layout.{storedLength}
 use Rattle.store.specs.StoredForm.{stored}
@@ -29,7 +29,7 @@ module _ (n founders : ℕ) where
   tested low high above = refuse (elim (low && high) [ true ↦ above | false ↦ true ]) 16
 
   by-tests : {p q r : Bool} → leb 1 n ≡ p → leb n 8 ≡ q → leb (2 ^ n) founders ≡ r → openRefusal (openingOf n founders) ≡ tested p q r
-  unfolding openRefusal wrongOpening within maxRecorders tested
+  unfolding openRefusal wrongOpening within tested
   by-tests d e f = λ i. tested (d i) (e i) (f i)
 
   pub too-few : n < 1 → openRefusal (openingOf n founders) ≡ 16

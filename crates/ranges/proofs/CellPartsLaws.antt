@@ -17,7 +17,7 @@ use Rattle.codec.specs.Pair.{given}
 use Rattle.codec.specs.Cells.{validAll, cells}
 use Rattle.codec.specs.Bounded.{bounded, optional}
 use Rattle.codec.specs.Table.{flags}
-use Rattle.model.specs.Hall.{maxEntries, maxSequence, maxBuffer, maxOrder, maxNumber, maxPending, maxQueue, maxRecorders}
+use Rattle.model.specs.Hall.{maxSequence}
 use Rattle.store.specs.Layout.{entrySize, recorderSize, placeSize, summarySize, viewSize}
 use Rattle.store.specs.Cells.{EntryCell}
 use Rattle.store.specs.CellForms.{viewNumber, entryList, labelWhole, entryForm, summaryForm, sentForm, phaseForm, recorderForm, messageForm, placeForm, queuedForm}
@@ -40,7 +40,7 @@ module _ (n o : ℕ) (b : List ℕ) where
   -- the cell at offset o
   pub entry-value : o + 10 ≤ length b → entryForm n .decode (part o entrySize b)
       ≡ record { sender = getD b o 0; value = value (part (o + 1) 4 b); labelView = value (part (o + 1 + 4) 4 b); labelSeq = getD b (o + 1 + 4 + 4) 0 }
-  unfolding entryForm guarded renamed mapped viewNumber number maxSequence
+  unfolding entryForm guarded renamed mapped viewNumber number
   entry-value h =
       let plus : (x : ℕ) → x + 0 ≡ x = λ x. omega arith in
       let low = given-value (byte 1 n) (λ a. given word (λ a. given viewNumber (λ a. byte 0 maxSequence))) o b in
@@ -56,7 +56,7 @@ module _ (n o : ℕ) (b : List ℕ) where
   pub entry-part : {m : ℕ} → o + 10 ≤ m → Block m b → entryForm n .valid (part o entrySize b)
       ≡ (byte 1 n .valid (part o 1 b) && (viewNumber .valid (part (o + 1 + 4) 4 b) && byte 0 64 .valid (part (o + 1 + 4 + 4) 1 b)))
       && wholeLabel (value (part (o + 1 + 4) 4 b)) (getD b (o + 1 + 4 + 4) 0)
-  unfolding entryForm guarded renamed mapped maxSequence wholeLabel labelWhole
+  unfolding entryForm guarded renamed mapped wholeLabel labelWhole
   entry-part h k =
       ap₂ _&&_
       (pair-part (byte 1 n) _ o b
@@ -68,7 +68,7 @@ module _ (o : ℕ) (b : List ℕ) where
   pub summary-part : summaryForm .valid (part o summarySize b)
       ≡ flags 64 .valid (part o 64 b)
       && (bounded (byte 1 64) 64 .valid (part (o + 64) 65 b) && (mark 65 .valid (part (o + 64 + 65) 1 b) && viewNumber .valid (part (o + 64 + 65 + 1) 4 b)))
-  unfolding summaryForm renamed mapped entryList maxEntries maxOrder
+  unfolding summaryForm renamed mapped entryList
   summary-part = pair-part (flags 64) _ o b (pair-part (bounded (byte 1 64) 64) _ (o + 64) b (pair-part (mark 65) viewNumber (o + 64 + 65) b refl))
 
 pub recorder-part : (o : ℕ) (b : List ℕ) → recorderForm .valid (part o recorderSize b)
@@ -77,7 +77,7 @@ pub recorder-part : (o : ℕ) (b : List ℕ) → recorderForm .valid (part o rec
     && (mark 65 .valid (part (o + 4 + 1) 1 b)
     && (bounded (byte 1 64) 64 .valid (part (o + 4 + 1 + 1) 65 b)
     && (bounded (byte 1 64) 64 .valid (part (o + 4 + 1 + 1 + 65) 65 b) && recorderRest (o + 4 + 1 + 1 + 65 + 65) b))))
-unfolding recorderForm renamed mapped phaseForm entryList maxEntries maxSequence maxBuffer maxOrder maxRecorders recorderRest
+unfolding recorderForm renamed mapped phaseForm entryList recorderRest
 recorder-part o b =
     pair-part viewNumber _ o b
     (pair-part phaseForm _ (o + 4) b
@@ -94,7 +94,7 @@ recorder-part o b =
 -- a list of messages is tested as one of bytes
 messages-part : (cap o : ℕ) (b : List ℕ) → o + (1 + cap * 1) ≤ length b
     → bounded messageForm cap .valid (part o (1 + cap * 1) b) ≡ bounded (byte 0 64) cap .valid (part o (1 + cap * 1) b)
-unfolding messageForm mapped maxEntries
+unfolding messageForm mapped
 messages-part cap o b h =
     bounded-part messageForm cap o b h
     ∙ ap (λ (t : Bool). leb (getD b o 0) cap && t) (cells-same messageForm (byte 0 64) (λ x. refl) (getD b o 0) cap (part (o + 1) (cap * 1) b))
@@ -103,14 +103,14 @@ messages-part cap o b h =
 pub place-part : (o : ℕ) (b : List ℕ) → o + 203 ≤ length b → placeForm .valid (part o placeSize b)
     ≡ bounded (byte 0 64) 65 .valid (part o 66 b)
     && (mark 73 .valid (part (o + 66) 1 b) && (mark 73 .valid (part (o + 66 + 1) 1 b) && sentForm .valid (part (o + 66 + 1 + 1) 135 b)))
-unfolding placeForm renamed mapped maxPending maxQueue
+unfolding placeForm renamed mapped
 place-part o b h =
     pair-part (bounded messageForm 65) _ o b (pair-part (mark 73) _ (o + 66) b (pair-part (mark 73) sentForm (o + 66 + 1) b refl))
     ∙ ap (λ (t : Bool). t && (mark 73 .valid (part (o + 66) 1 b) && (mark 73 .valid (part (o + 66 + 1) 1 b) && sentForm .valid (part (o + 66 + 1 + 1) 135 b))))
     (messages-part 65 o b (omega arith))
 
 pub queued-part : (o : ℕ) (b : List ℕ) → queuedForm .valid (part o 2 b) ≡ byte 1 8 .valid (part o 1 b) && byte 0 64 .valid (part (o + 1) 1 b)
-unfolding queuedForm renamed mapped messageForm maxRecorders maxEntries
+unfolding queuedForm renamed mapped messageForm
 queued-part o b = pair-part (byte 1 8) messageForm o b refl
 
 -- the place for a summary: none and zeros, or one
@@ -147,7 +147,7 @@ module _ (o : ℕ) (b : List ℕ) (h : o + 135 ≤ length b) where
 -- a view's number, 1 .. 255, and its set
 pub view-part : (n o : ℕ) (b : List ℕ) → viewForm n .valid (part o viewSize b)
     ≡ (leb 1 (value (part o 4 b)) && leb (value (part o 4 b)) 255) && byte 1 (2 ^ n - 1) .valid (part (o + 4) 1 b)
-unfolding viewForm setForm mapped number maxNumber
+unfolding viewForm setForm mapped number
 view-part n o b =
     let e : value (part o 4 b) + 0 ≡ value (part o 4 b) = omega arith in
     pair-part (number 4 0 1 255) (setForm n) o b refl

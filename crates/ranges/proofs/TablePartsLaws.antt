@@ -17,7 +17,6 @@ use Rattle.codec.specs.Bounded.{bounded}
 use Rattle.codec.specs.Table.{table, numbers}
 use Rattle.codec.proofs.TableLaws.{length-numbers}
 use Rattle.quorum.specs.Sets.{rising}
-use Rattle.model.specs.Hall.{maxEntries, maxViews, maxRecorders}
 use Rattle.store.specs.Layout.{entryCells, networkAt, recordersAt, queuesAt, storedLength}
 use Rattle.store.specs.Cells.{blankEntry}
 use Rattle.store.specs.CellForms.{entryForm, recorderForm, placeForm, queueForm}
@@ -89,7 +88,7 @@ module _ (m : ℕ) (b : List ℕ) where
 module _ (n : ℕ) (b : List ℕ) (h : 162 ≤ length b) where
   views-parts : viewsForm n .valid (part 1 161 b)
       ≡ (leb (getD b 1 0) 32 && cells (viewForm n) (getD b 1 0) 32 .valid (part 2 160 b)) && rising 0 (numbersOf (bounded (viewForm n) 32 .decode (part 1 161 b)))
-  unfolding viewsForm mapped viewList guarded numbersRise maxViews
+  unfolding viewsForm mapped viewList guarded numbersRise
   views-parts = ap (λ (t : Bool). t && rising 0 (numbersOf (bounded (viewForm n) 32 .decode (part 1 161 b)))) (bounded-part (viewForm n) 32 1 b h)
 
   pub views-over : 32 < getD b 1 0 → viewsForm n .valid (part 1 161 b) ≡ false
@@ -104,7 +103,7 @@ module _ (n : ℕ) (b : List ℕ) (h : 162 ≤ length b) where
 
   -- the numbers of the views
   pub views-created : getD b 1 0 ≤ 32 → viewsForm n .decode (part 1 161 b) .0 ≡ viewNumbers (getD b 1 0) 2 b
-  unfolding viewsForm mapped viewList guarded maxViews
+  unfolding viewsForm mapped viewList guarded
   views-created l = ap numbersOf (bounded-value (viewForm n) 32 1 b h l) ∙ numbers-of-views n (getD b 1 0) 2 b
 
   pub views-part : getD b 1 0 ≤ 32 → viewsForm n .valid (part 1 161 b)
@@ -118,7 +117,7 @@ module _ (n : ℕ) (b : List ℕ) (h : 162 ≤ length b) where
 
 entries-part : (n : ℕ) (b : List ℕ) → 162 < length b
     → entriesForm n .valid (part 162 641 b) ≡ leb (getD b 162 0) 64 && cells (entryForm n) (getD b 162 0) 64 .valid (part entryCells 640 b)
-unfolding entriesForm table mapped maxEntries
+unfolding entriesForm table mapped
 entries-part n b h =
     let c : ℕ = getD b 162 0 in
     let e : c + 0 ≡ c = omega arith in
@@ -135,7 +134,7 @@ pub entries-within : (n : ℕ) (b : List ℕ) → 162 < length b → getD b 162 
 entries-within n b h l = entries-part n b h ∙ rw (le-leb (getD b 162 0) 64 l)
 
 body-part : (n m : ℕ) (v : Views) (b : List ℕ) → length (v .0) ≡ m → bodyForm n v .valid (part 162 59537 b) ≡ tablesIn n m b
-unfolding bodyForm recordersForm networkForm queuesForm rowForm table mapped maxRecorders maxViews tablesIn
+unfolding bodyForm recordersForm networkForm queuesForm rowForm table mapped tablesIn
 body-part n m v b e =
     pair-part (entriesForm n) _ 162 b (pair-part (recordersForm n) _ 803 b (pair-part (networkForm n (v .0)) (queuesForm (v .0)) 3091 b refl))
     ∙ ap₂ (λ (k l : ℕ). entriesForm n .valid (part 162 641 b)
@@ -150,7 +149,7 @@ module _ (b : List ℕ) (h : storedLength ≤ length b) where
   whole : hallFields .valid (take storedLength b)
       ≡ byte 1 8 .valid (part 0 1 b)
       && (viewsForm (getD b 0 0) .valid (part 1 161 b) && bodyForm (getD b 0 0) (viewsForm (getD b 0 0) .decode (part 1 161 b)) .valid (part 162 59537 b))
-  unfolding hallFields renamed mapped fields afterSize maxRecorders
+  unfolding hallFields renamed mapped fields afterSize
   whole =
       let e : getD b 0 0 + 0 ≡ getD b 0 0 = omega arith in
       given-part (byte 1 8) afterSize 0 b

@@ -19,17 +19,28 @@ pub const VIEW_SET: usize = NUMBER;
 
 pub const VIEW: usize = VIEW_SET + 1;
 
-// An entry: sender, value, label view, label sequence number.
+// An entry: sender, payload (its value), label view, label sequence number.
+pub const PAYLOAD: usize = WORD;
+
 pub const ENTRY_PAYLOAD: usize = 1;
 
-pub const ENTRY_LABEL: usize = ENTRY_PAYLOAD + WORD;
+pub const ENTRY_LABEL: usize = ENTRY_PAYLOAD + PAYLOAD;
 
 pub const ENTRY_SEQUENCE: usize = ENTRY_LABEL + NUMBER;
 
 pub const ENTRY: usize = ENTRY_SEQUENCE + 1;
 
-// A recorder: current view, phase, next sequence number, buffer, order, confirm mark, report mark, highest primary, known,
-// safe, heard, safe sources.
+// A recorder's sets: known, safe, heard, safe sources.
+pub const SETS_SAFE: usize = MAX_ENTRIES;
+
+pub const SETS_HEARD: usize = SETS_SAFE + MAX_ENTRIES;
+
+pub const SETS_SAFE_SOURCES: usize = SETS_HEARD + MAX_RECORDERS;
+
+pub const SETS: usize = SETS_SAFE_SOURCES + MAX_RECORDERS;
+
+// A recorder: current view, phase, next sequence number, buffer, order, confirm mark, report mark, highest primary, its
+// sets.
 pub const RECORDER_PHASE: usize = NUMBER;
 
 pub const RECORDER_SEQUENCE: usize = RECORDER_PHASE + 1;
@@ -44,15 +55,9 @@ pub const RECORDER_REPORT: usize = RECORDER_CONFIRM + 1;
 
 pub const RECORDER_HIGH: usize = RECORDER_REPORT + 1;
 
-pub const RECORDER_KNOWN: usize = RECORDER_HIGH + NUMBER;
+pub const RECORDER_SETS: usize = RECORDER_HIGH + NUMBER;
 
-pub const RECORDER_SAFE: usize = RECORDER_KNOWN + MAX_ENTRIES;
-
-pub const RECORDER_HEARD: usize = RECORDER_SAFE + MAX_ENTRIES;
-
-pub const RECORDER_SAFE_SOURCES: usize = RECORDER_HEARD + MAX_RECORDERS;
-
-pub const RECORDER: usize = RECORDER_SAFE_SOURCES + MAX_RECORDERS;
+pub const RECORDER: usize = RECORDER_SETS + SETS;
 
 // A summary: known, order, confirm mark, highest primary.
 pub const SUMMARY_ORDER: usize = MAX_ENTRIES;
@@ -76,8 +81,10 @@ pub const PLACE: usize = PLACE_SUMMARY + SUMMARY;
 
 pub const ROW: usize = MAX_VIEWS * PLACE;
 
-// A queue: its length, and messages of two bytes: source, message.
-pub const QUEUED: usize = 2;
+// A queue: its length, and messages: source, message.
+pub const QUEUED_MESSAGE: usize = 1;
+
+pub const QUEUED: usize = QUEUED_MESSAGE + 1;
 
 pub const QUEUE: usize = 1 + MAX_QUEUE * QUEUED;
 

@@ -23,7 +23,7 @@ use Rattle.codec.specs.Table.{flags}
 use Rattle.quorum.specs.Sets.{has, recorders, members}
 use Rattle.quorum.proofs.SetLaws.{recorders-range, members-range, has-recorders}
 use Rattle.model.specs.Base.{all}
-use Rattle.model.specs.Hall.{maxEntries, maxRecorders, Entries, Message, Message.entry, Message.summary, Queued, Summary, Hall}
+use Rattle.model.specs.Hall.{maxEntries, Entries, Message, Message.entry, Message.summary, Queued, Summary, Hall}
 use Rattle.model.specs.Opening.{blankSummary}
 use Rattle.model.specs.Ordering.{isLabelled, numbers}
 use Rattle.store.specs.Layout.{entryCells, entrySize, recordersAt, recorderSize, queuesAt, queueSize}
@@ -105,7 +105,7 @@ module _ (b : List ℕ) (K : Held hallFields b) (l : List ℕ) (M : Labels (raw 
       ∙ all-same _ _ (listAt b o) (λ x k. sym (names-entry x))
 
   set-names : (o : ℕ) → o + 64 ≤ length b → setNames (raw b .entries) (flags 64 .decode (part o 64 b)) ≡ all (setOk l b o) (recorders 64)
-  unfolding setNames setOk maxEntries
+  unfolding setNames setOk
   set-names o h =
       all-same _ _ (recorders 64)
       (λ e k. let r = recorders-range 64 e k in ap₂ (λ (s t : Bool). not s || t) (flags-at 64 o b h e (r .0) (r .1)) (sym (M e)))
@@ -366,7 +366,7 @@ module _ (b : List ℕ) (K : Held hallFields b) (l : List ℕ) (M : Labels (raw 
           && (all (setOk l b (recordersAt + (r - 1) * recorderSize + 206)) (recorders 64)
           && (all (heardOk b (recordersAt + (r - 1) * recorderSize + 270) (sizeAt b) (setAt b i) i) (recorders 8)
           && all (sourceOk b (recordersAt + (r - 1) * recorderSize + 278) (sizeAt b) (setAt b i)) (recorders 8))))))
-      unfolding recorderCross heardOk sourceOk maxRecorders
+      unfolding recorderCross heardOk sourceOk
       recorder-cross =
           ap₂ _&&_ (ap₂ (λ (g : ℕ) (t : Bool). eqb g 0 || t) current-at (in-set r))
           (ap₂ _&&_ known-names

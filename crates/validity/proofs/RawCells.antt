@@ -16,7 +16,7 @@ use Rattle.codec.specs.Slice.{Held}
 use Rattle.codec.proofs.SliceLaws.{slice-value, slice-valid}
 use Rattle.codec.proofs.TableLaws.{by-cases}
 use Rattle.codec.specs.Table.{flags}
-use Rattle.model.specs.Hall.{maxQueue, Message, Summary}
+use Rattle.model.specs.Hall.{Message, Summary}
 use Rattle.model.specs.Opening.{blankSummary}
 use Rattle.store.specs.Layout.{recordersAt, recorderSize, placeSize, queuesAt, queueSize}
 use Rattle.store.specs.Cells.{recorderAt, placeAt}
@@ -81,7 +81,7 @@ module _ (b : List ℕ) (K : Held hallFields b) where
 
     -- the queue has at most 72 messages, two bytes each
     pub queue-count : getD b (queuesAt + i * queueSize) 0 ≤ 72
-    unfolding queueForm maxQueue
+    unfolding queueForm
     queue-count =
         let m = views-in b K in
         let room : queuesAt + i * queueSize + 145 ≤ length b = omega (arith, long b K) in
@@ -89,7 +89,7 @@ module _ (b : List ℕ) (K : Held hallFields b) where
         (bounded-part queuedForm 72 (queuesAt + i * queueSize) b room) valid-queue)
 
     pub queue-list : raw b .service .queue (viewAt b i) ≡ decodeAll queuedForm (getD b (queuesAt + i * queueSize) 0) (drop (queuesAt + i * queueSize + 1) b)
-    unfolding queueForm maxQueue
+    unfolding queueForm
     queue-list =
         let m = views-in b K in
         let room : queuesAt + i * queueSize + 145 ≤ length b = omega (arith, long b K) in

@@ -124,7 +124,6 @@ module _ (b : List ℕ) (K : Held hallFields b) where
       ∙ byte-value 0 maxEntries 162 b (omega (arith, long))
 
   pub count-in : entryCount b ≤ 64
-  unfolding maxEntries
   count-in = subst (λ (c : ℕ). c ≤ 64) raw-count (in-range .entries .atMost)
 
   -- entry e
@@ -161,7 +160,6 @@ module _ (b : List ℕ) (K : Held hallFields b) where
         ∙ place-nth (raw b .service .created) i (rising-distinct (raw b .service .created) (in-range .views .rises)) inside
 
     pub view-members : raw b .service .members (viewAt b i) ≡ members (sizeAt b) (getD b (2 + i * 5 + 4) 0)
-    unfolding maxRecorders
     view-members =
         let n = sizeAt b in
         let c = views-in in

@@ -15,7 +15,7 @@ use Rattle.codec.specs.Cells.{decodeAll}
 use Rattle.codec.specs.Bounded.{bounded, optional}
 use Rattle.codec.specs.Table.{flags}
 use Rattle.quorum.specs.Sets.{members}
-use Rattle.model.specs.Hall.{maxEntries, maxSequence, maxBuffer, maxOrder, maxPending, maxQueue, maxRecorders, Message, Message.entry, Message.summary, Queued, Summary, Phase}
+use Rattle.model.specs.Hall.{Message, Message.entry, Message.summary, Queued, Summary, Phase}
 use Rattle.model.specs.Opening.{blankSummary}
 use Rattle.store.specs.Layout.{recorderSize, placeSize, summarySize, viewSize}
 use Rattle.store.specs.Cells.{RecorderCell, PlaceCell}
@@ -70,7 +70,7 @@ pub summary-value : (o : ℕ) (b : List ℕ) → summaryForm .decode (part o sum
       confirm = mark 65 .decode (part (o + 64 + 65) 1 b);
       high = viewNumber .decode (part (o + 64 + 65 + 1) 4 b);
     }
-unfolding summaryForm renamed mapped entryList maxEntries maxOrder
+unfolding summaryForm renamed mapped entryList
 summary-value o b =
     ap (λ (t : (ℕ → Bool) × (List ℕ × (ℕ × ℕ))). let x : Summary = record { known = t .0; order = t .1 .0; confirm = t .1 .1 .0; high = t .1 .1 .1 } in x)
     (pair-value (flags 64) _ o b (pair-value (bounded (byte 1 64) 64) _ (o + 64) b (pair-value (mark 65) viewNumber (o + 64 + 65) b refl)))
@@ -91,7 +91,7 @@ pub recorder-value : (o : ℕ) (b : List ℕ) → recorderForm .decode (part o r
       heard = flags 8 .decode (part (o + 4 + 1 + 1 + 65 + 65 + 1 + 1 + 4 + 64 + 64) 8 b);
       safeSources = flags 8 .decode (part (o + 4 + 1 + 1 + 65 + 65 + 1 + 1 + 4 + 64 + 64 + 8) 8 b);
     }
-unfolding recorderForm renamed mapped entryList maxEntries maxSequence maxBuffer maxOrder maxRecorders
+unfolding recorderForm renamed mapped entryList
 recorder-value o b =
     ap (λ (t : ℕ × (Phase × (ℕ × (List ℕ × (List ℕ × (ℕ × (ℕ × (ℕ × ((ℕ → Bool) × ((ℕ → Bool) × ((ℕ → Bool) × (ℕ → Bool)))))))))))). let x : RecorderCell = record { current = t .0; phase = t .1 .0; nextSeq = t .1 .1 .0; buffer = t .1 .1 .1 .0; order = t .1 .1 .1 .1 .0; confirm = t .1 .1 .1 .1 .1 .0; report = t .1 .1 .1 .1 .1 .1 .0; high = t .1 .1 .1 .1 .1 .1 .1 .0; known = t .1 .1 .1 .1 .1 .1 .1 .1 .0; safe = t .1 .1 .1 .1 .1 .1 .1 .1 .1 .0; heard = t .1 .1 .1 .1 .1 .1 .1 .1 .1 .1 .0; safeSources = t .1 .1 .1 .1 .1 .1 .1 .1 .1 .1 .1 } in x)
     (pair-value viewNumber _ o b
@@ -115,7 +115,7 @@ pub place-value : (o : ℕ) (b : List ℕ) → placeForm .decode (part o placeSi
       sent = sentForm .decode (part (o + 66 + 1 + 1) 135 b) .0;
       summary = sentForm .decode (part (o + 66 + 1 + 1) 135 b) .1;
     }
-unfolding placeForm renamed mapped maxPending maxQueue
+unfolding placeForm renamed mapped
 place-value o b =
     ap (λ (t : List Message × (ℕ × (ℕ × (Bool × Summary)))). let x : PlaceCell = record { pending = t .0; next = t .1 .0; nextSafe = t .1 .1 .0; sent = t .1 .1 .1 .0; summary = t .1 .1 .1 .1 } in x)
     (pair-value (bounded messageForm 65) _ o b (pair-value (mark 73) _ (o + 66) b (pair-value (mark 73) sentForm (o + 66 + 1) b refl)))
@@ -132,11 +132,11 @@ module _ (o : ℕ) (b : List ℕ) (h : o + 135 ≤ length b) where
 
 -- a message: an entry's number, 0 for the summary
 pub message-value : (o : ℕ) (b : List ℕ) → o < length b → messageForm .decode (part o 1 b) ≡ messageOf (getD b o 0)
-unfolding messageForm mapped maxEntries messageOf
+unfolding messageForm mapped messageOf
 message-value o b h = ap messageOf (byte-value 0 64 o b h)
 
 pub queued-value : (o : ℕ) (b : List ℕ) → o + 2 ≤ length b → queuedForm .decode (part o 2 b) ≡ record { source = getD b o 0; message = messageOf (getD b (o + 1) 0) }
-unfolding queuedForm renamed mapped maxRecorders
+unfolding queuedForm renamed mapped
 queued-value o b h =
     let s = byte-value 1 8 o b (omega arith) in
     let m = message-value (o + 1) b (omega arith) in

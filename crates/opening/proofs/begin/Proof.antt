@@ -7,7 +7,6 @@ use lib.Pow.{pow-mono}
 use lib.Seq.{sets}
 use borrow.Author.Needs.{needs}
 use Rattle.codec.specs.Number.{digits}
-use Rattle.model.specs.Hall.{maxRecorders}
 use Rattle.store.specs.Layout.{storedLength}
 use Rattle.opening.proofs.OpenedLaws.{begin-bytes}
 use Rattle.opening.proofs.begin.Statement.{statement}
@@ -44,7 +43,6 @@ same-length : tie.Need-same-length
 same-length c = search needs
 
 returns : tie.Need-returns
-unfolding maxRecorders
 returns c =
     let n = c .before .before .before .before .before .before .before .before .before .before .before .before .before .before .before .before .before .before .before .before .before .args .n in
     let set = c .before .before .before .before .before .before .before .before .before .before .before .before .before .before .before .before .before .before .before .before .before .args .set in

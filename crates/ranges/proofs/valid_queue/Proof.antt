@@ -2,7 +2,6 @@
 use denote.Ref.{now}
 use native.Mathlib.Omega.{arith}
 use mathlib.Core.Path.{sym, _∙_}
-use Rattle.model.specs.Hall.{maxQueue}
 use Rattle.store.specs.CellForms.{queuedForm, queueForm}
 use Rattle.ranges.proofs.Loops.{bounded-over, bounded-within}
 use Rattle.ranges.proofs.valid_queue.Statement.{statement}
@@ -16,7 +15,7 @@ cast-m : tie.Need-cast-m
 cast-m c = omega (arith, c .shared-slice-known2 .given (c .before .before .args .at))
 
 returns : tie.Need-returns
-unfolding queueForm maxQueue
+unfolding queueForm
 returns c = sym (bounded-over queuedForm 72 (c .before .before .before .args .at) (now (c .before .before .before .args .b)) (c .before .before .before .pre) (c .if1 .taken))
 
 add-valid-messages : tie.Need-add-valid-messages
@@ -26,7 +25,7 @@ valid-messages-requires : tie.Need-valid-messages-requires
 valid-messages-requires c κs = search needs
 
 returns-2 : tie.Need-returns-2
-unfolding queueForm maxQueue
+unfolding queueForm
 returns-2 c = c .valid-messages .ensures ∙ sym (bounded-within queuedForm 72 (c .before .before .before .before .args .at) (now (c .before .before .before .before .args .b)) (c .before .before .before .before .pre) (c .before .if1 .left))
 
 pub valid-queue-spec : {M : Type 1} → statement M

@@ -3,7 +3,6 @@ use denote.Ref.{now}
 use Prim.Native.Nat.{ℕ}
 use mathlib.Core.Path.{sym, ap, _∙_}
 use lib.Dec.{leb}
-use Rattle.model.specs.Hall.{maxNumber}
 use Rattle.store.specs.CellForms.{viewNumber}
 use Rattle.ranges.proofs.Parts.{number-part}
 use Rattle.ranges.proofs.valid_view_number.Statement.{statement}
@@ -14,7 +13,7 @@ get-u32-requires : tie.Need-get-u32-requires
 get-u32-requires c κs = search needs
 
 returns : tie.Need-returns
-unfolding viewNumber maxNumber
+unfolding viewNumber
 returns c =
     ap (λ (v : ℕ). leb v 255) (c .get-u32 .ensures) ∙ sym (number-part 255 (c .before .before .args .at) (now (c .before .before .args .b)))
 
