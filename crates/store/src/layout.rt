@@ -86,7 +86,9 @@ pub const QUEUED_MESSAGE: usize = 1;
 
 pub const QUEUED: usize = QUEUED_MESSAGE + 1;
 
-pub const QUEUE: usize = 1 + MAX_QUEUE * QUEUED;
+pub const MESSAGES: usize = MAX_QUEUE * QUEUED;
+
+pub const QUEUE: usize = 1 + MESSAGES;
 
 // The whole: N; the formed views, their count first; the entries, their count first; the recorders, recorder r in cell
 // r - 1; the network, a row of places for each recorder, by place among the formed views; the queues, by place likewise.
