@@ -30,6 +30,13 @@ pub const ENTRY_SEQUENCE: usize = ENTRY_LABEL + NUMBER;
 
 pub const ENTRY: usize = ENTRY_SEQUENCE + 1;
 
+// A list of entries: its length, and a byte for each place.
+pub const BUFFER: usize = 1 + MAX_BUFFER;
+
+pub const ORDER: usize = 1 + MAX_ORDER;
+
+pub const PENDING: usize = 1 + MAX_PENDING;
+
 // A recorder's sets: known, safe, heard, safe sources.
 pub const SETS_SAFE: usize = MAX_ENTRIES;
 
@@ -47,9 +54,9 @@ pub const RECORDER_SEQUENCE: usize = RECORDER_PHASE + 1;
 
 pub const RECORDER_BUFFER: usize = RECORDER_SEQUENCE + 1;
 
-pub const RECORDER_ORDER: usize = RECORDER_BUFFER + 1 + MAX_BUFFER;
+pub const RECORDER_ORDER: usize = RECORDER_BUFFER + BUFFER;
 
-pub const RECORDER_CONFIRM: usize = RECORDER_ORDER + 1 + MAX_ORDER;
+pub const RECORDER_CONFIRM: usize = RECORDER_ORDER + ORDER;
 
 pub const RECORDER_REPORT: usize = RECORDER_CONFIRM + 1;
 
@@ -62,14 +69,17 @@ pub const RECORDER: usize = RECORDER_SETS + SETS;
 // A summary: known, order, confirm mark, highest primary.
 pub const SUMMARY_ORDER: usize = MAX_ENTRIES;
 
-pub const SUMMARY_CONFIRM: usize = SUMMARY_ORDER + 1 + MAX_ORDER;
+pub const SUMMARY_CONFIRM: usize = SUMMARY_ORDER + ORDER;
 
 pub const SUMMARY_HIGH: usize = SUMMARY_CONFIRM + 1;
 
 pub const SUMMARY: usize = SUMMARY_HIGH + NUMBER;
 
+// A place for a summary: sent or not, and the summary.
+pub const SENT: usize = 1 + SUMMARY;
+
 // A recorder's place in a view: pending, receive mark, safe mark, sent, summary.
-pub const PLACE_NEXT: usize = 1 + MAX_PENDING;
+pub const PLACE_NEXT: usize = PENDING;
 
 pub const PLACE_NEXT_SAFE: usize = PLACE_NEXT + 1;
 

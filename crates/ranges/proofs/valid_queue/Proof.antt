@@ -7,6 +7,7 @@ use Rattle.ranges.proofs.Loops.{bounded-over, bounded-within}
 use Rattle.ranges.proofs.valid_queue.Statement.{statement}
 use Rattle.ranges.proofs.valid_queue.Tie as tie
 use borrow.Author.Needs.{needs}
+use Rattle.model.specs.Hall.{maxQueue}
 
 shared-slice-read-m : tie.Need-shared-slice-read-m
 shared-slice-read-m c = search needs
@@ -16,7 +17,7 @@ cast-m c = omega (arith, c .shared-slice-known2 .given (c .before .before .args 
 
 returns : tie.Need-returns
 unfolding queueForm
-returns c = sym (bounded-over queuedForm 72 (c .before .before .before .args .at) (now (c .before .before .before .args .b)) (c .before .before .before .pre) (c .if1 .taken))
+returns c = sym (bounded-over queuedForm maxQueue (c .before .before .before .args .at) (now (c .before .before .before .args .b)) (c .before .before .before .pre) (c .if1 .taken))
 
 add-valid-messages : tie.Need-add-valid-messages
 add-valid-messages c = search needs
@@ -26,7 +27,7 @@ valid-messages-requires c κs = search needs
 
 returns-2 : tie.Need-returns-2
 unfolding queueForm
-returns-2 c = c .valid-messages .ensures ∙ sym (bounded-within queuedForm 72 (c .before .before .before .before .args .at) (now (c .before .before .before .before .args .b)) (c .before .before .before .before .pre) (c .before .if1 .left))
+returns-2 c = c .valid-messages .ensures ∙ sym (bounded-within queuedForm maxQueue (c .before .before .before .before .args .at) (now (c .before .before .before .before .args .b)) (c .before .before .before .before .pre) (c .before .if1 .left))
 
 pub valid-queue-spec : {M : Type 1} → statement M
 valid-queue-spec =

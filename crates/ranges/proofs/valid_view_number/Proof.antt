@@ -8,6 +8,7 @@ use Rattle.ranges.proofs.Parts.{number-part}
 use Rattle.ranges.proofs.valid_view_number.Statement.{statement}
 use Rattle.ranges.proofs.valid_view_number.Tie as tie
 use borrow.Author.Needs.{needs}
+use Rattle.model.specs.Hall.{maxNumber}
 
 get-u32-requires : tie.Need-get-u32-requires
 get-u32-requires c κs = search needs
@@ -15,7 +16,7 @@ get-u32-requires c κs = search needs
 returns : tie.Need-returns
 unfolding viewNumber
 returns c =
-    ap (λ (v : ℕ). leb v 255) (c .get-u32 .ensures) ∙ sym (number-part 255 (c .before .before .args .at) (now (c .before .before .args .b)))
+    ap (λ (v : ℕ). leb v maxNumber) (c .get-u32 .ensures) ∙ sym (number-part maxNumber (c .before .before .args .at) (now (c .before .before .args .b)))
 
 pub valid-view-number-spec : {M : Type 1} → statement M
 valid-view-number-spec = tie.close (tie.spec get-u32-requires returns)
