@@ -64,6 +64,14 @@ pub const RECORDER_HIGH: usize = RECORDER_REPORT + 1;
 
 pub const RECORDER_SETS: usize = RECORDER_HIGH + NUMBER;
 
+pub const RECORDER_KNOWN: usize = RECORDER_SETS;
+
+pub const RECORDER_SAFE: usize = RECORDER_SETS + SETS_SAFE;
+
+pub const RECORDER_HEARD: usize = RECORDER_SETS + SETS_HEARD;
+
+pub const RECORDER_SAFE_SOURCES: usize = RECORDER_SETS + SETS_SAFE_SOURCES;
+
 pub const RECORDER: usize = RECORDER_SETS + SETS;
 
 // A summary: known, order, confirm mark, highest primary.
