@@ -140,7 +140,10 @@ fn valid_recorder_rest(b: &[u8], at: usize) -> bool
     let safe = known + limits::MAX_ENTRIES;
     let heard = safe + limits::MAX_ENTRIES;
     let marks = valid_mark(b, at, ORDER_MARK);
-    let sources = both(valid_flags(b, heard, limits::MAX_RECORDERS), valid_flags(b, heard + limits::MAX_RECORDERS, limits::MAX_RECORDERS));
+    let sources = both(
+        valid_flags(b, heard, limits::MAX_RECORDERS),
+        valid_flags(b, heard + limits::MAX_RECORDERS, limits::MAX_RECORDERS),
+    );
     let sets = both(
         valid_flags(b, known, limits::MAX_ENTRIES),
         both(valid_flags(b, safe, limits::MAX_ENTRIES), sources),
@@ -200,7 +203,10 @@ fn valid_queued(b: &[u8], at: usize) -> bool
     requires { ⌜ at + queuedSize ≤ length (now b) ⌝ }
     ensures { λ r. ⌜ r ≡ queuedForm .valid (part at queuedSize (now (b .entry))) ⌝ }
 {
-    both(valid_byte(b, at, 1, RECORDERS), valid_byte(b, at + layout::QUEUED_MESSAGE, 0, ENTRIES))
+    both(
+        valid_byte(b, at, 1, RECORDERS),
+        valid_byte(b, at + layout::QUEUED_MESSAGE, 0, ENTRIES),
+    )
 }
 
 // The m messages of a queue, and zeros.

@@ -193,7 +193,11 @@ fn view_set(b: &[u8], i: usize) -> u8
     ensures { λ r. ⌜ r ≡ setAt (now (b .entry)) i ⌝ }
 {
     let m = b[layout::VIEW_COUNT] as usize;
-    if i < m { b[layout::VIEWS + i * layout::VIEW + layout::VIEW_SET] } else { 0 }
+    if i < m {
+        b[layout::VIEWS + i * layout::VIEW + layout::VIEW_SET]
+    } else {
+        0
+    }
 }
 
 // The sequence number of each entry's label, 0 for none.
@@ -224,7 +228,10 @@ fn label_apart(b: &[u8], d: usize, e: usize) -> bool
     if b[x + layout::ENTRY_SEQUENCE] == 0 {
         return true;
     }
-    let seq_sender = both(b[x + layout::ENTRY_SEQUENCE] == b[y + layout::ENTRY_SEQUENCE], b[x] == b[y]);
+    let seq_sender = both(
+        b[x + layout::ENTRY_SEQUENCE] == b[y + layout::ENTRY_SEQUENCE],
+        b[x] == b[y],
+    );
     !both(
         codec::get_u32(b, x + layout::ENTRY_LABEL) == codec::get_u32(b, y + layout::ENTRY_LABEL),
         seq_sender,
@@ -268,7 +275,11 @@ fn names_queued(b: &[u8], i: usize, at: usize, labels: &[u8; limits::MAX_ENTRIES
 {
     let source = b[at] as usize;
     if is_member(b[0], view_set(b, i), source) {
-        names_message(labels, is_sent(b, source, i), b[at + layout::QUEUED_MESSAGE])
+        names_message(
+            labels,
+            is_sent(b, source, i),
+            b[at + layout::QUEUED_MESSAGE],
+        )
     } else {
         false
     }
@@ -379,10 +390,19 @@ fn recorder_cross(b: &[u8], labels: &[u8; limits::MAX_ENTRIES], r: usize) -> boo
     let set = view_set(b, i);
     let current = in_view(b[0], set, g, r);
     let known = names_set(b, at + layout::RECORDER_KNOWN, labels);
-    let sources = both(heard_all(b, at + layout::RECORDER_HEARD, set, i), source_all(b, at + layout::RECORDER_SAFE_SOURCES, set));
+    let sources = both(
+        heard_all(b, at + layout::RECORDER_HEARD, set, i),
+        source_all(b, at + layout::RECORDER_SAFE_SOURCES, set),
+    );
     let sets = both(names_set(b, at + layout::RECORDER_SAFE, labels), sources);
-    let order = both(names_all(b, at + layout::RECORDER_ORDER, labels, false), sets);
-    let lists = both(names_all(b, at + layout::RECORDER_BUFFER, labels, false), order);
+    let order = both(
+        names_all(b, at + layout::RECORDER_ORDER, labels, false),
+        sets,
+    );
+    let lists = both(
+        names_all(b, at + layout::RECORDER_BUFFER, labels, false),
+        order,
+    );
     both(current, both(known, lists))
 }
 
