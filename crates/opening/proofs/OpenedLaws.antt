@@ -32,7 +32,7 @@ use Rattle.model.specs.Opening.{Opening, openRefusal, founderSet, noEntries, bl
 use Rattle.model.proofs.Agreement.Tools.{upd-ext, true-or-false}
 use Rattle.model.proofs.Agreement.Chains.{chain-none, not-refused}
 use Rattle.model.proofs.Agreement.KeepViews.{has-none, founder-first, outsider-first}
-use Rattle.store.specs.Layout.{storedLength, recordersAt, recorderSize}
+use Rattle.store.specs.Layout.{storedLength, recordersAt, recorderSize, numberSize, viewsAt, viewCells, viewSets}
 use Rattle.store.specs.Valid.{EachIn, ViewsIn, RecorderIn, InRange}
 use Rattle.store.specs.Cells.{entryAt, RecorderCell, blankRecorder, recorderAt, blankPlace, blankEntry, placeAt, PlaceCell}
 use Rattle.store.specs.CellForms.{viewNumber, entryList, phaseForm, entryForm, recorderForm, placeForm, queueForm}
@@ -151,7 +151,7 @@ begun-more n m k h =
 recorder-in : (started : List ℕ) (r : ℕ) → RecorderIn (firstView started) (openRecorders started) r
 unfolding openRecorders
 recorder-in started r =
-    let first : firstView started r ≤ 255 =
+    let first : firstView started r ≤ maxNumber =
     ⊎-elim (λ t. rw (founder-first started r t) (omega arith)) (λ f. rw (outsider-first started r f) (omega arith))
     (true-or-false (has started r)) in
     record {
@@ -312,12 +312,12 @@ first-byte b len m x e h =
     ∙ ap (λ (k : ℕ). sets (zeros k ++ drop len b) 0 (x ∷ [])) e
 
 -- a view's cell: its number in four bytes, its mask in one
-view-bytes : (n g m : ℕ) → m < 2 ^ n → viewForm n .encode (g, members n m) ≡ digits 4 g ++ digits 1 m
+view-bytes : (n g m : ℕ) → m < 2 ^ n → viewForm n .encode (g, members n m) ≡ digits numberSize g ++ digits 1 m
 unfolding viewForm setForm given number mapped
 view-bytes n g m h =
     let e : g - 0 ≡ g = omega arith in
     let f : mask (members n m) - 0 ≡ m = omega (arith, mask-members n m h) in
-    ap₂ (λ (x y : ℕ). digits 4 x ++ digits 1 y) e f
+    ap₂ (λ (x y : ℕ). digits numberSize x ++ digits 1 y) e f
 
 module _ (n m : ℕ) (size : Between 1 maxRecorders n) (some-one : 1 ≤ m) (fits : m < 2 ^ n) where
   not-none : members n m ≡ [] → ⊥
@@ -350,7 +350,7 @@ module _ (n m : ℕ) (size : Between 1 maxRecorders n) (some-one : 1 ≤ m) (fit
   unfolding stored hallForm guarded
   blank-length = hallFields-lawful .stored (blankHall n) (fields-ok (blankHall n) .0 blank-range) .len
 
-  formed : stored (begun n m 0) ≡ sets (sets (stored (blankHall n)) 2 (viewForm n .encode (1, members n m))) 1 (digits 1 1)
+  formed : stored (begun n m 0) ≡ sets (sets (stored (blankHall n)) viewCells (viewForm n .encode (1, members n m))) viewsAt (digits 1 1)
   unfolding stored hallForm guarded viewForm given number setForm mapped blankHall hallWith digits has
   formed =
       ap (hallFields .encode) (sym (begun-none n m))
@@ -359,24 +359,24 @@ module _ (n m : ℕ) (size : Between 1 maxRecorders n) (some-one : 1 ≤ m) (fit
 
   -- forming view 1: its cell, and the count
   form-first : (rest : List ℕ)
-      → sets (sets (sets (stored (blankHall n) ++ rest) 2 (digits 4 1)) 6 (digits 1 m)) 1 (digits 1 1) ≡ stored (begun n m 0) ++ rest
+      → sets (sets (sets (stored (blankHall n) ++ rest) viewCells (digits numberSize 1)) viewSets (digits 1 m)) viewsAt (digits 1 1) ≡ stored (begun n m 0) ++ rest
   unfolding digits
   form-first rest =
       let x = viewForm n .encode (1, members n m) in
       let s = stored (blankHall n) in
-      let view : 2 + length x ≤ length s = omega (arith, ap length (view-bytes n 1 m fits), blank-length) in
-      let count : 1 + length (digits 1 1) ≤ length (sets s 2 x) = omega (arith, length-sets s 2 x, blank-length) in
-      ap (λ (z : List ℕ). sets z 1 (digits 1 1))
-      (sym (sets-append (s ++ rest) 2 (digits 4 1) (digits 1 m)) ∙ ap (sets (s ++ rest) 2) (sym (view-bytes n 1 m fits)) ∙ sets-append-left s rest 2 x view)
-      ∙ sets-append-left (sets s 2 x) rest 1 (digits 1 1) count
+      let view : viewCells + length x ≤ length s = omega (arith, ap length (view-bytes n 1 m fits), blank-length) in
+      let count : viewsAt + length (digits 1 1) ≤ length (sets s viewCells x) = omega (arith, length-sets s viewCells x, blank-length) in
+      ap (λ (z : List ℕ). sets z viewsAt (digits 1 1))
+      (sym (sets-append (s ++ rest) viewCells (digits numberSize 1) (digits 1 m)) ∙ ap (sets (s ++ rest) viewCells) (sym (view-bytes n 1 m fits)) ∙ sets-append-left s rest viewCells x view)
+      ∙ sets-append-left (sets s viewCells x) rest viewsAt (digits 1 1) count
       ∙ ap (λ (z : List ℕ). z ++ rest) (sym formed)
 
   -- the hall with view 1 and no recorder started: zeros, N, the view's number and mask, the count
   pub begin-bytes : (b : List ℕ) (len : ℕ) → len ≡ storedLength → len ≤ length b
-      → sets (sets (sets (sets (sets b 0 (zeros len)) 0 (digits 1 n)) 2 (digits 4 1)) 6 (digits 1 m)) 1 (digits 1 1)
+      → sets (sets (sets (sets (sets b 0 (zeros len)) 0 (digits 1 n)) viewCells (digits numberSize 1)) viewSets (digits 1 m)) viewsAt (digits 1 1)
       ≡ stored (begun n m 0) ++ drop len b
   begin-bytes b len e h =
-      ap (λ (z : List ℕ). sets (sets (sets z 2 (digits 4 1)) 6 (digits 1 m)) 1 (digits 1 1))
+      ap (λ (z : List ℕ). sets (sets (sets z viewCells (digits numberSize 1)) viewSets (digits 1 m)) viewsAt (digits 1 1))
       (ap (sets (sets b 0 (zeros len)) 0) (digits-byte n (omega (arith, size .1)))
       ∙ first-byte b len (storedLength - 1) n e h
       ∙ ap (λ (z : List ℕ). z ++ drop len b) (sym (blank-bytes n size)))

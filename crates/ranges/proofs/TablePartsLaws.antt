@@ -18,7 +18,7 @@ use Rattle.codec.specs.Table.{table, numbers}
 use Rattle.codec.proofs.TableLaws.{length-numbers}
 use Rattle.quorum.specs.Sets.{rising}
 use Rattle.model.specs.Hall.{maxEntries, maxViews, maxRecorders}
-use Rattle.store.specs.Layout.{entryCells, networkAt, recordersAt, queuesAt, storedLength, numberSize, viewSize, entrySize, viewsAt, viewCells, entriesAt, viewsSize, entriesSize, recordersSize, networkSize, queuesSize, bodySize}
+use Rattle.store.specs.Layout.{entryCells, networkAt, recordersAt, queuesAt, storedLength, numberSize, viewSize, entrySize, viewsAt, viewCells, entriesAt, viewsSize, entriesSize, recordersSize, networkSize, queuesSize, bodySize, restSize}
 use Rattle.store.specs.Cells.{blankEntry}
 use Rattle.store.specs.CellForms.{entryForm, recorderForm, placeForm, queueForm}
 use Rattle.store.specs.ViewForm.{Views, viewForm, numbersOf, numbersRise, viewList, viewsForm}
@@ -154,7 +154,7 @@ module _ (b : List ℕ) (h : storedLength ≤ length b) where
   whole =
       let e : getD b 0 0 + 0 ≡ getD b 0 0 = omega arith in
       given-part (byte 1 maxRecorders) afterSize 0 b
-      ∙ ap (λ (n : ℕ). byte 1 maxRecorders .valid (part 0 1 b) && afterSize n .valid (part viewsAt (viewsSize + bodySize) b)) (number-decode 0 1 maxRecorders 0 b (omega arith) ∙ e)
+      ∙ ap (λ (n : ℕ). byte 1 maxRecorders .valid (part 0 1 b) && afterSize n .valid (part viewsAt restSize b)) (number-decode 0 1 maxRecorders 0 b (omega arith) ∙ e)
       ∙ ap (λ (t : Bool). byte 1 maxRecorders .valid (part 0 1 b) && t) (given-part (viewsForm (getD b 0 0)) (bodyForm (getD b 0 0)) viewsAt b)
 
   -- of a whole in range, its counts are

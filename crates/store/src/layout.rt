@@ -114,6 +114,8 @@ pub const VIEW_COUNT: usize = 1;
 
 pub const VIEWS: usize = VIEW_COUNT + 1;
 
+pub const VIEW_SETS: usize = VIEWS + VIEW_SET;
+
 pub const ENTRY_COUNT: usize = VIEWS + MAX_VIEWS * VIEW;
 
 pub const ENTRIES: usize = ENTRY_COUNT + 1;
