@@ -15,7 +15,7 @@ use Rattle.codec.specs.Bytes.{part, zeros}
 use Rattle.codec.specs.Number.{digits, value}
 use Rattle.codec.proofs.NumberLaws.{value-digits}
 use Rattle.codec.proofs.TableLaws.{by-cases}
-use Rattle.model.specs.Hall.{maxRecorders, Entries, Hall}
+use Rattle.model.specs.Hall.{Entries, Hall}
 use Rattle.model.specs.Answers.{Answer, from, Plain, plain, accepted}
 use Rattle.model.specs.Refusals.{orderAt}
 use Rattle.model.specs.Opening.{Opening}
@@ -87,7 +87,6 @@ calls-agree b o n d opens t cs met low =
 
 -- sender and value of an entry of a valid hall are 32-bit words
 entry-words : (h : Hall) → ValidHall h → (e : ℕ) → (h .entries .sender e < 2 ^ 32) × (h .entries .value e < 2 ^ 32)
-unfolding maxRecorders
 entry-words h v e =
     by-cases (leb 1 e && leb e (h .entries .count))
     (λ t.

@@ -7,6 +7,10 @@ use Rattle.codec.specs.declared.ByteList.{ByteList}
 use Rattle.codec.specs.Bytes.{zeros, part}
 use Rattle.codec.specs.Number.{between}
 
+-- how many bytes a `ByteList` has room for
+abbrev pub listCapacity : ℕ
+listCapacity = 72
+
 -- the bytes that a `ByteList` holds
 abbrev pub items : ByteList → List ℕ
 items l = take (l .len) (l .places)

@@ -8,7 +8,7 @@ ghost use lib.Seq.{sets};
 ghost use Rattle.codec.specs.Bytes.{part, zeros, allZero};
 ghost use Rattle.codec.specs.Number.{digits, value, byte};
 ghost use Rattle.codec.specs.Bounded.{bounded};
-ghost use Rattle.codec.specs.ByteList.{items, listAt, listBytes, allIn};
+ghost use Rattle.codec.specs.ByteList.{items, listAt, listBytes, allIn, listCapacity};
 
 // The byte at an offset.
 pub fn get_byte(b: &[u8], at: usize) -> u8
@@ -115,18 +115,22 @@ pub fn all_in(b: &[u8], from: usize, to: usize, lo: u8, hi: u8) -> bool
 // A list of at most 72 bytes: the first `len` of `places`. Where it is stored it has a capacity of its own,
 // which may be less.
 pub struct ByteList {
-    pub places: [u8; 72],
+    pub places: [u8; ByteList::CAPACITY],
     pub len: usize,
+}
+
+impl ByteList {
+    pub const CAPACITY: usize = 72;
 }
 
 // The byte list at an offset.
 pub fn get_list(b: &[u8], at: usize) -> ByteList
-    requires { ⌜ (at < length (now b)) × ((getD (now b) at 0 ≤ 72) × (at + 1 + getD (now b) at 0 ≤ length (now b))) ⌝ }
+    requires { ⌜ (at < length (now b)) × ((getD (now b) at 0 ≤ listCapacity) × (at + 1 + getD (now b) at 0 ≤ length (now b))) ⌝ }
     ensures { λ r. ⌜ (r .len ≡ getD (now (b .entry)) at 0) × (items r ≡ listAt (now (b .entry)) at) ⌝ }
 {
     let n = b[at] as usize;
     let from = at + 1;
-    let mut places = [0u8; 72];
+    let mut places = [0u8; ByteList::CAPACITY];
     let mut i = 0;
     while i < n {
         places[i] = b[from + i];
@@ -137,7 +141,7 @@ pub fn get_list(b: &[u8], at: usize) -> ByteList
 
 // Writes a byte list at an offset where it has room for cap bytes, with zeros past its own.
 pub fn put_list(b: &mut [u8], at: usize, cap: usize, l: ByteList)
-    requires { ⌜ (l .len ≤ cap) × ((cap ≤ 72) × (at + (1 + cap) ≤ length (now b))) ⌝ }
+    requires { ⌜ (l .len ≤ cap) × ((cap ≤ listCapacity) × (at + (1 + cap) ≤ length (now b))) ⌝ }
     ensures { λ _. ⌜ now (b .exit) ≡ sets (now (b .entry)) at (listBytes cap (items l)) ⌝ }
 {
     let n = l.len;

@@ -8,10 +8,10 @@ use mathlib.Core.Option.{none, some}
 use lib.ListN.{length, getD, take, drop, set}
 use lib.Seq.{take-suc-set}
 use Rattle.codec.specs.declared.ByteList.{ByteList}
-use Rattle.codec.specs.ByteList.{items}
+use Rattle.codec.specs.ByteList.{items, listCapacity}
 use Rattle.lists.specs.Ends.{firstOf}
 
-module _ (l : ByteList) (full : length (l .places) ≡ 72) where
+module _ (l : ByteList) (full : length (l .places) ≡ listCapacity) where
   pub first-none : l .len ≡ 0 → firstOf (items l) ≡ none
   unfolding firstOf
   first-none e = ap (λ (n : ℕ). firstOf (take n (l .places))) e
@@ -26,7 +26,7 @@ module _ (l : ByteList) (full : length (l .places) ≡ 72) where
       go (x ∷ xs) (suc n) h k = refl
 
   -- one byte more
-  pub pushed : (x : ℕ) → l .len < 72 → take (l .len + 1) (set (l .places) (l .len) x) ≡ items l ++ (x ∷ [])
+  pub pushed : (x : ℕ) → l .len < listCapacity → take (l .len + 1) (set (l .places) (l .len) x) ≡ items l ++ (x ∷ [])
   pushed x h =
       ap (λ (n : ℕ). take n (set (l .places) (l .len) x)) (add-one (l .len)) ∙ take-suc-set (l .places) (l .len) x (omega arith)
 

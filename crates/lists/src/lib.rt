@@ -4,7 +4,7 @@ ghost use mathlib.Core.Path.{_≡_};
 ghost use mathlib.Core.List.{[], _∷_, _++_};
 ghost use Prim.Native.Nat.{_+_, _-_, _≤_, _<_};
 ghost use lib.ListN.{drop};
-ghost use Rattle.codec.specs.ByteList.{items};
+ghost use Rattle.codec.specs.ByteList.{items, listCapacity};
 ghost use Rattle.lists.specs.Ends.{firstOf, foundOf};
 use codec::ByteList;
 
@@ -16,7 +16,7 @@ pub enum Waiting {
 
 // The first byte of a list.
 pub fn first_of(l: ByteList) -> Waiting
-    requires { ⌜ l .len ≤ 72 ⌝ }
+    requires { ⌜ l .len ≤ listCapacity ⌝ }
     ensures { λ r. ⌜ foundOf r ≡ firstOf (items l) ⌝ }
 {
     if l.len == 0 {
@@ -28,7 +28,7 @@ pub fn first_of(l: ByteList) -> Waiting
 
 // A list without its first byte.
 pub fn pop(l: ByteList) -> ByteList
-    requires { ⌜ (0 < l .len) × (l .len ≤ 72) ⌝ }
+    requires { ⌜ (0 < l .len) × (l .len ≤ listCapacity) ⌝ }
     ensures { λ r. ⌜ (r .len ≡ l .len - 1) × (items r ≡ drop 1 (items l)) ⌝ }
 {
     let n = l.len - 1;
@@ -44,7 +44,7 @@ pub fn pop(l: ByteList) -> ByteList
 
 // A list with one byte more, at the end.
 pub fn push(l: ByteList, x: u8) -> ByteList
-    requires { ⌜ l .len < 72 ⌝ }
+    requires { ⌜ l .len < listCapacity ⌝ }
     ensures { λ r. ⌜ (r .len ≡ l .len + 1) × (items r ≡ items l ++ (x ∷ [])) ⌝ }
 {
     let n = l.len;

@@ -15,13 +15,13 @@ use answer::plain_page;
 use codec::clear;
 use codec::put_bytes;
 use codec::put_u32;
+use model::refusals;
 use page::page;
 use step::step;
+use store::layout;
 
-// How long an answer's slice is at least, and a hall's stored form.
+// How long an answer's slice is at least.
 const ANSWER: usize = 64;
-
-const LENGTH: usize = 59699;
 
 // Writes an answer's values into the first 64 bytes of a slice.
 fn put_values(out: &mut [u8], values: &[u32])
@@ -46,7 +46,7 @@ pub fn page_into(hall: &[u8], r: u32, k: u32, out: &mut [u8]) -> u32
         return p.number;
     }
     if out.len() < ANSWER {
-        return 18;
+        return refusals::SHORT;
     }
     let values = p.values;
     put_values(out, &values);
@@ -57,7 +57,7 @@ pub fn page_into(hall: &[u8], r: u32, k: u32, out: &mut [u8]) -> u32
 fn or_no_room(number: u32) -> u32
     ensures { λ n. ⌜ n ≡ number ⨾ 18 ⌝ }
 {
-    if number == 0 { 18 } else { number }
+    if number == 0 { refusals::SHORT } else { number }
 }
 
 // The number of a step on a slice that is too short for a hall.
@@ -73,8 +73,8 @@ fn try_copy(hall: &[u8], k: u32, r: u32, a: u32, d: u32) -> u32
     requires { ⌜ storedLength ≤ length (now hall) ⌝ }
     ensures { λ n. ⌜ n ≡ model.plain (stepOn (now (hall .entry)) (wordsOf k r a d) .answer) .number ⌝ }
 {
-    let mut copy = [0u8; LENGTH];
-    put_bytes(&mut copy, 0, hall, LENGTH);
+    let mut copy = [0u8; layout::LENGTH];
+    put_bytes(&mut copy, 0, hall, layout::LENGTH);
     plain(step(&mut copy, k, r, a, d)).number
 }
 
@@ -82,7 +82,7 @@ fn try_copy(hall: &[u8], k: u32, r: u32, a: u32, d: u32) -> u32
 fn try_step(hall: &[u8], k: u32, r: u32, a: u32, d: u32) -> u32
     ensures { λ n. ⌜ n ≡ model.plain (stepOn (now (hall .entry)) (wordsOf k r a d) .answer) .number ⨾ 18 ⌝ }
 {
-    if hall.len() < LENGTH {
+    if hall.len() < layout::LENGTH {
         or_no_room(try_short(k, r, a, d))
     } else {
         or_no_room(try_copy(hall, k, r, a, d))

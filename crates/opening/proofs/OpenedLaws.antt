@@ -25,14 +25,14 @@ use Rattle.codec.proofs.TableLaws.{all-keys, length-numbers}
 use Rattle.codec.proofs.SliceLaws.{sets-append-left}
 use Rattle.quorum.specs.Sets.{recorders, filter, inMask, members, mask, has, rising}
 use Rattle.quorum.proofs.SetLaws.{has-there, has-append, has-filter, has-members, recorders-range, members-range, members-nonempty, rising-recorders, rising-members, mask-append, mask-members}
-use Rattle.model.specs.Hall.{maxEntries, maxSequence, maxBuffer, maxOrder, maxViews, maxNumber, maxPending, maxQueue, maxRecorders, Queued, normal, Hall}
+use Rattle.model.specs.Hall.{maxEntries, maxSequence, maxBuffer, maxOrder, maxViews, maxNumber, maxRecorders, Queued, normal, Hall}
 use Rattle.model.specs.Fields.{setCurrent, setService}
 use Rattle.model.specs.Service.{createview}
 use Rattle.model.specs.Opening.{Opening, openRefusal, founderSet, noEntries, blankSummary, noSummaries, firstView, openService, openRecorders, openHall, opened}
 use Rattle.model.proofs.Agreement.Tools.{upd-ext, true-or-false}
 use Rattle.model.proofs.Agreement.Chains.{chain-none, not-refused}
 use Rattle.model.proofs.Agreement.KeepViews.{has-none, founder-first, outsider-first}
-use Rattle.store.specs.Layout.{storedLength, recordersAt, recorderSize}
+use Rattle.store.specs.Layout.{storedLength, recordersAt, recorderSize, numberSize, viewsAt, viewCells, viewSets}
 use Rattle.store.specs.Valid.{EachIn, ViewsIn, RecorderIn, InRange}
 use Rattle.store.specs.Cells.{entryAt, RecorderCell, blankRecorder, recorderAt, blankPlace, blankEntry, placeAt, PlaceCell}
 use Rattle.store.specs.CellForms.{viewNumber, entryList, phaseForm, entryForm, recorderForm, placeForm, queueForm}
@@ -149,9 +149,9 @@ begun-more n m k h =
 
 -- each of them has its fields in range
 recorder-in : (started : List ℕ) (r : ℕ) → RecorderIn (firstView started) (openRecorders started) r
-unfolding openRecorders maxEntries maxSequence maxBuffer maxOrder maxNumber
+unfolding openRecorders
 recorder-in started r =
-    let first : firstView started r ≤ 255 =
+    let first : firstView started r ≤ maxNumber =
     ⊎-elim (λ t. rw (founder-first started r t) (omega arith)) (λ f. rw (outsider-first started r f) (omega arith))
     (true-or-false (has started r)) in
     record {
@@ -180,7 +180,7 @@ module _ (n : ℕ) (created : List ℕ) (sets : ℕ → List ℕ) (started : Lis
   first-out r o = outsider-first started r (is-false (λ t. not-outside (inside r t) o))
 
   with-range : InRange (hallWith n created sets started)
-  unfolding hallWith openService openRecorders noSummaries noEntries blankSummary maxEntries maxSequence maxBuffer maxOrder maxPending maxQueue maxNumber
+  unfolding hallWith openService openRecorders noSummaries noEntries blankSummary
   with-range =
       record {
         size = size;
@@ -264,27 +264,27 @@ recorder-zeros =
 module _ (n : ℕ) (size : Between 1 maxRecorders n) where
   -- the views and the tables of a blank hall are zero bytes alone
   blank-views : Blank (viewsForm n) ([], λ g. [])
-  unfolding viewsForm viewList mapped guarded maxViews
+  unfolding viewsForm viewList mapped guarded
   blank-views = blank-bounded (viewForm n) maxViews
 
   blank-entries : Blank (entriesForm n) (0, entryAt noEntries)
-  unfolding entriesForm maxEntries numbers
+  unfolding entriesForm numbers
   blank-entries =
       blank-given (byte 0 maxEntries) (λ m. table (entryForm n) (numbers 1 m) maxEntries blankEntry) 0 (entryAt noEntries) (blank-number 1 0 0 maxEntries)
       (blank-table (entryForm n) [] maxEntries blankEntry (entryAt noEntries) (omega arith) (λ e k. absurd (has-none e k)))
 
   blank-recorders : Blank (recordersForm n) (recorderAt (firstView []) (openRecorders []))
-  unfolding recordersForm maxRecorders recorderAt openRecorders firstView has blankRecorder
+  unfolding recordersForm recorderAt openRecorders firstView has blankRecorder
   blank-recorders = blank-numbered recorderForm n maxRecorders blankRecorder _ (size .1) (λ r. recorder-zeros)
 
   blank-network : (f : ℕ → ℕ → PlaceCell) → Blank (networkForm n []) f
-  unfolding networkForm rowForm maxRecorders maxViews
+  unfolding networkForm rowForm
   blank-network f =
       blank-numbered (rowForm []) n maxRecorders (λ g. blankPlace) f (size .1)
       (λ p. blank-table placeForm [] maxViews blankPlace (f p) (omega arith) (λ g k. absurd (has-none g k)))
 
   blank-queues : (f : ℕ → List Queued) → Blank (queuesForm []) f
-  unfolding queuesForm maxViews
+  unfolding queuesForm
   blank-queues f = blank-table queueForm [] maxViews [] f (omega arith) (λ g k. absurd (has-none g k))
 
   blank-rest : Blank (afterSize n) (fromHall (blankHall n) .1)
@@ -296,7 +296,7 @@ module _ (n : ℕ) (size : Between 1 maxRecorders n) where
       (blank-given (networkForm n []) _ (placeAt (blankHall n .service) noSummaries) _ (blank-network _) (blank-queues _))))
 
   pub blank-bytes : stored (blankHall n) ≡ n ∷ zeros (storedLength - 1)
-  unfolding stored hallForm guarded hallFields renamed mapped fields given number blankHall hallWith maxRecorders
+  unfolding stored hallForm guarded hallFields renamed mapped fields given number blankHall hallWith
   blank-bytes =
       let e : n - 0 ≡ n = omega arith in
       ap₂ (λ (x y : List ℕ). x ++ y) (ap (digits 1) e ∙ digits-byte n (omega (arith, size .1))) blank-rest
@@ -312,19 +312,19 @@ first-byte b len m x e h =
     ∙ ap (λ (k : ℕ). sets (zeros k ++ drop len b) 0 (x ∷ [])) e
 
 -- a view's cell: its number in four bytes, its mask in one
-view-bytes : (n g m : ℕ) → m < 2 ^ n → viewForm n .encode (g, members n m) ≡ digits 4 g ++ digits 1 m
+view-bytes : (n g m : ℕ) → m < 2 ^ n → viewForm n .encode (g, members n m) ≡ digits numberSize g ++ digits 1 m
 unfolding viewForm setForm given number mapped
 view-bytes n g m h =
     let e : g - 0 ≡ g = omega arith in
     let f : mask (members n m) - 0 ≡ m = omega (arith, mask-members n m h) in
-    ap₂ (λ (x y : ℕ). digits 4 x ++ digits 1 y) e f
+    ap₂ (λ (x y : ℕ). digits numberSize x ++ digits 1 y) e f
 
 module _ (n m : ℕ) (size : Between 1 maxRecorders n) (some-one : 1 ≤ m) (fits : m < 2 ^ n) where
   not-none : members n m ≡ [] → ⊥
   not-none = let k = members-nonempty n m fits some-one in not-empty (members n m) (k .0) (k .1)
 
   blank-range : InRange (blankHall n)
-  unfolding blankHall maxViews rising
+  unfolding blankHall rising
   blank-range =
       with-range n [] (λ g. []) [] size
       (record {
@@ -350,8 +350,8 @@ module _ (n m : ℕ) (size : Between 1 maxRecorders n) (some-one : 1 ≤ m) (fit
   unfolding stored hallForm guarded
   blank-length = hallFields-lawful .stored (blankHall n) (fields-ok (blankHall n) .0 blank-range) .len
 
-  formed : stored (begun n m 0) ≡ sets (sets (stored (blankHall n)) 2 (viewForm n .encode (1, members n m))) 1 (digits 1 1)
-  unfolding stored hallForm guarded viewForm given number setForm mapped maxNumber maxViews blankHall hallWith digits has
+  formed : stored (begun n m 0) ≡ sets (sets (stored (blankHall n)) viewCells (viewForm n .encode (1, members n m))) viewsAt (digits 1 1)
+  unfolding stored hallForm guarded viewForm given number setForm mapped blankHall hallWith digits has
   formed =
       ap (hallFields .encode) (sym (begun-none n m))
       ∙ form-bytes (blankHall n) blank-range 1 refl (omega arith) (members n m)
@@ -359,25 +359,24 @@ module _ (n m : ℕ) (size : Between 1 maxRecorders n) (some-one : 1 ≤ m) (fit
 
   -- forming view 1: its cell, and the count
   form-first : (rest : List ℕ)
-      → sets (sets (sets (stored (blankHall n) ++ rest) 2 (digits 4 1)) 6 (digits 1 m)) 1 (digits 1 1) ≡ stored (begun n m 0) ++ rest
+      → sets (sets (sets (stored (blankHall n) ++ rest) viewCells (digits numberSize 1)) viewSets (digits 1 m)) viewsAt (digits 1 1) ≡ stored (begun n m 0) ++ rest
   unfolding digits
   form-first rest =
       let x = viewForm n .encode (1, members n m) in
       let s = stored (blankHall n) in
-      let view : 2 + length x ≤ length s = omega (arith, ap length (view-bytes n 1 m fits), blank-length) in
-      let count : 1 + length (digits 1 1) ≤ length (sets s 2 x) = omega (arith, length-sets s 2 x, blank-length) in
-      ap (λ (z : List ℕ). sets z 1 (digits 1 1))
-      (sym (sets-append (s ++ rest) 2 (digits 4 1) (digits 1 m)) ∙ ap (sets (s ++ rest) 2) (sym (view-bytes n 1 m fits)) ∙ sets-append-left s rest 2 x view)
-      ∙ sets-append-left (sets s 2 x) rest 1 (digits 1 1) count
+      let view : viewCells + length x ≤ length s = omega (arith, ap length (view-bytes n 1 m fits), blank-length) in
+      let count : viewsAt + length (digits 1 1) ≤ length (sets s viewCells x) = omega (arith, length-sets s viewCells x, blank-length) in
+      ap (λ (z : List ℕ). sets z viewsAt (digits 1 1))
+      (sym (sets-append (s ++ rest) viewCells (digits numberSize 1) (digits 1 m)) ∙ ap (sets (s ++ rest) viewCells) (sym (view-bytes n 1 m fits)) ∙ sets-append-left s rest viewCells x view)
+      ∙ sets-append-left (sets s viewCells x) rest viewsAt (digits 1 1) count
       ∙ ap (λ (z : List ℕ). z ++ rest) (sym formed)
 
   -- the hall with view 1 and no recorder started: zeros, N, the view's number and mask, the count
   pub begin-bytes : (b : List ℕ) (len : ℕ) → len ≡ storedLength → len ≤ length b
-      → sets (sets (sets (sets (sets b 0 (zeros len)) 0 (digits 1 n)) 2 (digits 4 1)) 6 (digits 1 m)) 1 (digits 1 1)
+      → sets (sets (sets (sets (sets b 0 (zeros len)) 0 (digits 1 n)) viewCells (digits numberSize 1)) viewSets (digits 1 m)) viewsAt (digits 1 1)
       ≡ stored (begun n m 0) ++ drop len b
-  unfolding maxRecorders
   begin-bytes b len e h =
-      ap (λ (z : List ℕ). sets (sets (sets z 2 (digits 4 1)) 6 (digits 1 m)) 1 (digits 1 1))
+      ap (λ (z : List ℕ). sets (sets (sets z viewCells (digits numberSize 1)) viewSets (digits 1 m)) viewsAt (digits 1 1))
       (ap (sets (sets b 0 (zeros len)) 0) (digits-byte n (omega (arith, size .1)))
       ∙ first-byte b len (storedLength - 1) n e h
       ∙ ap (λ (z : List ℕ). z ++ drop len b) (sym (blank-bytes n size)))
@@ -399,7 +398,7 @@ module _ (n m : ℕ) (size : Between 1 maxRecorders n) (some-one : 1 ≤ m) (fit
 module _ (b : List ℕ) (o : Opening) where
   -- an opening that is not refused
   pub taken : openNumber b o ≡ 0 → Taken (o .size) (founderMask o) b
-  unfolding openNumber maxRecorders
+  unfolding openNumber
   taken z =
       let both = chain-none (openRefusal o) _ z in
       let i = opening-in o (both .0) in

@@ -11,7 +11,7 @@ use borrow.Author.Tests.{le-leb, lt-leb, eq-eqb, ne-eqb}
 use Rattle.quorum.specs.Sets.{inMask, members, has}
 use Rattle.quorum.proofs.SetLaws.{has-members}
 use Rattle.model.specs.Base.{within, refuse, _⨾_}
-use Rattle.model.specs.Hall.{maxRecorders, Hall}
+use Rattle.model.specs.Hall.{Hall, maxRecorders}
 use Rattle.model.specs.Opening.{openingOf, wrongOpening, openRefusal, opened}
 use Rattle.store.specs.Layout.{storedLength}
 use Rattle.store.specs.StoredForm.{stored}
@@ -20,7 +20,7 @@ use Rattle.calls.proofs.OpenLaws.{open-refused, open-taken}
 use Rattle.opening.specs.Opened.{founderMask, begun, Taken}
 use Rattle.opening.proofs.OpenedLaws.{begun-opened, taken}
 
-pub one-shifted : (n : ℕ) → n ≤ 8 → 1 * 2 ^ n % 4294967296 ≡ 2 ^ n
+pub one-shifted : (n : ℕ) → n ≤ maxRecorders → 1 * 2 ^ n % 4294967296 ≡ 2 ^ n
 one-shifted n h = shl-exact {a = 1} 1 n 32 (lit< tt) (omega arith) ∙ omega arith
 
 -- 16 by its three tests
@@ -28,28 +28,28 @@ module _ (n founders : ℕ) where
   tested : Bool → Bool → Bool → ℕ
   tested low high above = refuse (elim (low && high) [ true ↦ above | false ↦ true ]) 16
 
-  by-tests : {p q r : Bool} → leb 1 n ≡ p → leb n 8 ≡ q → leb (2 ^ n) founders ≡ r → openRefusal (openingOf n founders) ≡ tested p q r
-  unfolding openRefusal wrongOpening within maxRecorders tested
+  by-tests : {p q r : Bool} → leb 1 n ≡ p → leb n maxRecorders ≡ q → leb (2 ^ n) founders ≡ r → openRefusal (openingOf n founders) ≡ tested p q r
+  unfolding openRefusal wrongOpening within tested
   by-tests d e f = λ i. tested (d i) (e i) (f i)
 
   pub too-few : n < 1 → openRefusal (openingOf n founders) ≡ 16
   unfolding tested refuse
   too-few h = by-tests (lt-leb 1 n h) refl refl
 
-  pub too-many : 8 < n → openRefusal (openingOf n founders) ≡ 16
+  pub too-many : maxRecorders < n → openRefusal (openingOf n founders) ≡ 16
   unfolding tested refuse
   too-many h =
-      by-tests refl (lt-leb n 8 h) refl
+      by-tests refl (lt-leb n maxRecorders h) refl
       ∙ ap (λ (t : Bool). refuse (elim t [ true ↦ leb (2 ^ n) founders | false ↦ true ]) 16) (and-false (leb 1 n))
 
-  module _ (low : 1 ≤ n) (high : n ≤ 8) where
+  module _ (low : 1 ≤ n) (high : n ≤ maxRecorders) where
     pub founders-above : 2 ^ n - 1 < founders → openRefusal (openingOf n founders) ≡ 16
     unfolding tested refuse
-    founders-above h = by-tests (le-leb 1 n low) (le-leb n 8 high) (le-leb (2 ^ n) founders (omega arith))
+    founders-above h = by-tests (le-leb 1 n low) (le-leb n maxRecorders high) (le-leb (2 ^ n) founders (omega arith))
 
     pub right-opening : founders ≤ 2 ^ n - 1 → openRefusal (openingOf n founders) ≡ 0
     unfolding tested refuse
-    right-opening h = by-tests (le-leb 1 n low) (le-leb n 8 high) (lt-leb (2 ^ n) founders (omega (arith, pow-pos n)))
+    right-opening h = by-tests (le-leb 1 n low) (le-leb n maxRecorders high) (lt-leb (2 ^ n) founders (omega (arith, pow-pos n)))
 
 -- the tested bit says whether recorder k + 1 is a founder
 module _ (n set k : ℕ) (h : k < n) where

@@ -8,7 +8,7 @@ use lib.ListN.{length}
 use lib.Seq.{sets}
 use Rattle.base.specs.Update.{upd}
 use Rattle.quorum.specs.Sets.{recorders, members}
-use Rattle.model.specs.Hall.{Hall}
+use Rattle.model.specs.Hall.{Hall, maxRecorders}
 use Rattle.model.specs.Fields.{setCreated, setMembers}
 use Rattle.model.specs.Opening.{Opening, noEntries, noSummaries, openService, openRecorders, openHall}
 use Rattle.store.specs.Layout.{storedLength}
@@ -46,6 +46,6 @@ startOf n m r = let h = openHall n (members n m) in recorderAt (h .service .curr
 
 -- what is known of N, the founders' mask and the bytes of an opening that is not refused
 pub record Taken (n m : ℕ) (b : List ℕ) : Type 0 where
-  pub size : (1 ≤ n) × (n ≤ 8)
+  pub size : (1 ≤ n) × (n ≤ maxRecorders)
   pub founders : (1 ≤ m) × (m < 2 ^ n)
   pub long : storedLength ≤ length b

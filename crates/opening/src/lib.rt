@@ -8,6 +8,7 @@ ghost use lib.ListN.{length, drop};
 ghost use lib.Seq.{sets};
 ghost use Rattle.model.specs.Base.{refuse, _⨾_};
 ghost use Rattle.model.specs.Opening.{openRefusal, openingOf};
+ghost use Rattle.model.specs.Hall.{maxRecorders};
 ghost use Rattle.store.specs.Layout.{storedLength, recordersAt, recorderSize};
 ghost use Rattle.store.specs.CellForms.{recorderForm};
 ghost use Rattle.store.specs.StoredForm.{stored};
@@ -16,19 +17,18 @@ ghost use Rattle.opening.specs.Opened.{Taken, founderMask, begun, startO
 use codec::clear;
 use codec::put_byte;
 use codec::put_u32;
+use model::limits;
+use model::refusals;
 use pieces::Recorder;
 use pieces::put_recorder;
+use store::layout;
 
-// How long the stored form is, and where the recorders stand in it.
-const LENGTH: usize = 59699;
-
-const RECORDERS: usize = 803;
-
-const RECORDER: usize = 286;
+// "N, 1 to 8"
+const RECORDERS: u32 = limits::MAX_RECORDERS as u32;
 
 // The set of recorders 1 to n.
 fn all(n: u32) -> u32
-    requires { ⌜ n ≤ 8 ⌝ }
+    requires { ⌜ n ≤ maxRecorders ⌝ }
     ensures { λ r. ⌜ r ≡ 2 ^ n - 1 ⌝ }
 {
     (1 << n) - 1
@@ -39,19 +39,27 @@ fn wrong_opening(n: u32, founders: u32) -> u32
     ensures { λ r. ⌜ r ≡ openRefusal (openingOf n founders) ⌝ }
 {
     if n < 1 {
-        return 16;
+        return refusals::OPENING;
     }
-    if 8 < n {
-        return 16;
+    if RECORDERS < n {
+        return refusals::OPENING;
     }
-    if all(n) < founders { 16 } else { 0 }
+    if all(n) < founders {
+        refusals::OPENING
+    } else {
+        0
+    }
 }
 
 // 18: "the slice to open or write into is too short".
 fn too_short(len: usize) -> u32
     ensures { λ r. ⌜ r ≡ refuse (ltb len storedLength) 18 ⌝ }
 {
-    if len < LENGTH { 18 } else { 0 }
+    if len < layout::LENGTH {
+        refusals::SHORT
+    } else {
+        0
+    }
 }
 
 // The first of two refusals, 0 for none.
@@ -63,7 +71,7 @@ fn first(one: u32, two: u32) -> u32
 
 // "A founders word of 0 means all recorders."
 fn founder_mask(n: u32, founders: u32) -> u32
-    requires { ⌜ n ≤ 8 ⌝ }
+    requires { ⌜ n ≤ maxRecorders ⌝ }
     ensures { λ r. ⌜ r ≡ founderMask (openingOf n founders) ⌝ }
 {
     if founders == 0 { all(n) } else { founders }
@@ -74,19 +82,19 @@ fn begin(b: &mut [u8], n: u32, set: u32)
     requires { ⌜ Taken n set (now b) ⌝ }
     ensures { λ _. ⌜ now (b .exit) ≡ stored (begun n set 0) ++ drop storedLength (now (b .entry)) ⌝ }
 {
-    clear(b, 0, LENGTH);
+    clear(b, 0, layout::LENGTH);
     put_byte(b, 0, n as u8);
-    put_u32(b, 2, 1);
-    put_byte(b, 6, set as u8);
-    put_byte(b, 1, 1);
+    put_u32(b, layout::VIEWS, 1);
+    put_byte(b, layout::VIEW_SETS, set as u8);
+    put_byte(b, layout::VIEW_COUNT, 1);
 }
 
 // Recorder k + 1 starts: "founders have current view and highest primary 1, others 0 for both".
 fn start(b: &mut [u8], set: u32, k: u32)
-    requires { ⌜ (k < 8) × (storedLength ≤ length (now b)) ⌝ }
+    requires { ⌜ (k < maxRecorders) × (storedLength ≤ length (now b)) ⌝ }
     ensures { λ _. ⌜ ((n : ℕ) → k < n → now (b .exit) ≡ sets (now (b .entry)) (recordersAt + k * recorderSize) (recorderForm .encode (startOf n set (k + 1)))) ⌝ }
 {
-    let at = RECORDERS + k as usize * RECORDER;
+    let at = layout::RECORDERS + k as usize * layout::RECORDER;
     if (set >> k) % 2 == 1 {
         put_recorder(b, at, Recorder::founder());
     } else {

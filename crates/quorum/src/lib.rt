@@ -9,7 +9,7 @@ ghost use Rattle.quorum.specs.Votes.{votes, quorum, share, builtIn, rowO
 pub const BUILT_IN: [u32; 8] = [2, 1, 1, 1, 1, 1, 1, 1];
 
 // The set of all eight recorders.
-const ALL: u32 = 255;
+pub const ALL: u32 = 255;
 
 // What recorder k adds to the votes of a set: "a set is a mask with bit k-1 for recorder k".
 fn vote(row: &[u32; 8], k: u32, set: u32) -> u32

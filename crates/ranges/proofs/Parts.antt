@@ -21,6 +21,7 @@ use Rattle.codec.specs.Cells.{validAll, cells}
 use Rattle.codec.specs.ByteList.{allIn}
 use Rattle.codec.specs.Table.{table, flags}
 use Rattle.codec.proofs.TableLaws.{length-numbers}
+use Rattle.store.specs.Layout.{numberSize}
 
 -- a pair at offset o: the first part, and then the second
 pub given-part : {A B : Type 0} {m n : ℕ} (H : Form A m) (G : A → Form B n) (o : ℕ) (b : List ℕ)
@@ -50,11 +51,11 @@ mark-part hi o b h =
     ∙ ap (λ (j : ℕ). leb j hi) (add-one (getD b o 0))
 
 -- a number of 0 .. hi in four bytes
-pub number-part : (hi o : ℕ) (b : List ℕ) → number 4 0 0 hi .valid (part o 4 b) ≡ leb (value (part o 4 b)) hi
+pub number-part : (hi o : ℕ) (b : List ℕ) → number numberSize 0 0 hi .valid (part o numberSize b) ≡ leb (value (part o numberSize b)) hi
 unfolding number
 number-part hi o b =
-    let e : value (part o 4 b) + 0 ≡ value (part o 4 b) = omega arith in
-    ap (between 0 hi) e ∙ ap (λ (t : Bool). t && leb (value (part o 4 b)) hi) (leb·zero (value (part o 4 b)))
+    let e : value (part o numberSize b) + 0 ≡ value (part o numberSize b) = omega arith in
+    ap (between 0 hi) e ∙ ap (λ (t : Bool). t && leb (value (part o numberSize b)) hi) (leb·zero (value (part o numberSize b)))
 
 -- any four bytes are a word
 pub word-part : (o : ℕ) (b : List ℕ) {m : ℕ} → o + 4 ≤ m → Block m b → word .valid (part o 4 b) ≡ true

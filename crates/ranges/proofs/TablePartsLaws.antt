@@ -18,7 +18,7 @@ use Rattle.codec.specs.Table.{table, numbers}
 use Rattle.codec.proofs.TableLaws.{length-numbers}
 use Rattle.quorum.specs.Sets.{rising}
 use Rattle.model.specs.Hall.{maxEntries, maxViews, maxRecorders}
-use Rattle.store.specs.Layout.{entryCells, networkAt, recordersAt, queuesAt, storedLength}
+use Rattle.store.specs.Layout.{entryCells, networkAt, recordersAt, queuesAt, storedLength, numberSize, viewSize, entrySize, viewsAt, viewCells, entriesAt, viewsSize, entriesSize, recordersSize, networkSize, queuesSize, bodySize, restSize}
 use Rattle.store.specs.Cells.{blankEntry}
 use Rattle.store.specs.CellForms.{entryForm, recorderForm, placeForm, queueForm}
 use Rattle.store.specs.ViewForm.{Views, viewForm, numbersOf, numbersRise, viewList, viewsForm}
@@ -32,13 +32,13 @@ use Rattle.ranges.specs.TableParts.{viewNumbers, tablesIn}
 pub length-viewNumbers : (m o : ℕ) (b : List ℕ) → length (viewNumbers m o b) ≡ m
 unfolding viewNumbers
 length-viewNumbers zero o b = refl
-length-viewNumbers (suc m) o b = ap suc (length-viewNumbers m (o + 5) b)
+length-viewNumbers (suc m) o b = ap suc (length-viewNumbers m (o + viewSize) b)
 
 -- the number of the view at offset o
-view-number : (n o : ℕ) (b : List ℕ) → viewForm n .decode (part o 5 b) .0 ≡ value (part o 4 b)
+view-number : (n o : ℕ) (b : List ℕ) → viewForm n .decode (part o viewSize b) .0 ≡ value (part o numberSize b)
 unfolding viewForm number
 view-number n o b =
-    let e : value (part o 4 b) + 0 ≡ value (part o 4 b) = omega arith in
+    let e : value (part o numberSize b) + 0 ≡ value (part o numberSize b) = omega arith in
     ap (λ (p : ℕ × List ℕ). p .0) (given-value _ _ o b) ∙ e
 
 pub numbers-of-views : (n m o : ℕ) (b : List ℕ) → numbersOf (decodeAll (viewForm n) m (drop o b)) ≡ viewNumbers m o b
@@ -46,136 +46,136 @@ unfolding viewNumbers decodeAll
 numbers-of-views n zero o b = refl
 numbers-of-views n (suc m) o b =
     ap₂ _∷_ (view-number n o b)
-    (ap (λ (x : List ℕ). numbersOf (decodeAll (viewForm n) m x)) (drop-drop 5 o b) ∙ numbers-of-views n m (o + 5) b)
+    (ap (λ (x : List ℕ). numbersOf (decodeAll (viewForm n) m x)) (drop-drop viewSize o b) ∙ numbers-of-views n m (o + viewSize) b)
 
 -- a loop over the views: those from i on rise above the number before
 module _ (m : ℕ) (b : List ℕ) where
   abbrev pub Rises : ℕ → ℕ → Type 0
-  Rises i l = rising 0 (viewNumbers m 2 b) ≡ rising l (viewNumbers (m - i) (2 + i * 5) b)
+  Rises i l = rising 0 (viewNumbers m viewCells b) ≡ rising l (viewNumbers (m - i) (viewCells + i * viewSize) b)
 
   pub rises-start : Rises 0 0
   rises-start =
       let e : m - 0 ≡ m = omega arith in
-      ap (λ (j : ℕ). rising 0 (viewNumbers j 2 b)) (sym e)
+      ap (λ (j : ℕ). rising 0 (viewNumbers j viewCells b)) (sym e)
 
   next-view : (i l : ℕ) → i < m
-      → rising l (viewNumbers (m - i) (2 + i * 5) b)
-      ≡ ltb l (value (part (2 + i * 5) 4 b)) && rising (value (part (2 + i * 5) 4 b)) (viewNumbers (m - (i + 1)) (2 + (i + 1) * 5) b)
+      → rising l (viewNumbers (m - i) (viewCells + i * viewSize) b)
+      ≡ ltb l (value (part (viewCells + i * viewSize) numberSize b)) && rising (value (part (viewCells + i * viewSize) numberSize b)) (viewNumbers (m - (i + 1)) (viewCells + (i + 1) * viewSize) b)
   unfolding viewNumbers rising
   next-view i l h =
       let n : m - i ≡ suc (m - (i + 1)) = omega arith in
-      let o : 2 + i * 5 + 5 ≡ 2 + (i + 1) * 5 = omega arith in
-      let v : ℕ = value (part (2 + i * 5) 4 b) in
-      ap (λ (j : ℕ). rising l (viewNumbers j (2 + i * 5) b)) n
+      let o : viewCells + i * viewSize + viewSize ≡ viewCells + (i + 1) * viewSize = omega arith in
+      let v : ℕ = value (part (viewCells + i * viewSize) numberSize b) in
+      ap (λ (j : ℕ). rising l (viewNumbers j (viewCells + i * viewSize) b)) n
       ∙ ap (λ (j : ℕ). ltb l v && rising v (viewNumbers (m - (i + 1)) j b)) o
 
-  pub rises-next : (i l : ℕ) → i < m → l < value (part (2 + i * 5) 4 b) → Rises i l → Rises (i + 1) (value (part (2 + i * 5) 4 b))
+  pub rises-next : (i l : ℕ) → i < m → l < value (part (viewCells + i * viewSize) numberSize b) → Rises i l → Rises (i + 1) (value (part (viewCells + i * viewSize) numberSize b))
   rises-next i l h k r =
-      let v : ℕ = value (part (2 + i * 5) 4 b) in
-      r ∙ next-view i l h ∙ ap (λ (t : Bool). t && rising v (viewNumbers (m - (i + 1)) (2 + (i + 1) * 5) b)) (lt-ltb l v k)
+      let v : ℕ = value (part (viewCells + i * viewSize) numberSize b) in
+      r ∙ next-view i l h ∙ ap (λ (t : Bool). t && rising v (viewNumbers (m - (i + 1)) (viewCells + (i + 1) * viewSize) b)) (lt-ltb l v k)
 
-  pub rises-fail : (i l : ℕ) → i < m → value (part (2 + i * 5) 4 b) ≤ l → Rises i l → rising 0 (viewNumbers m 2 b) ≡ false
+  pub rises-fail : (i l : ℕ) → i < m → value (part (viewCells + i * viewSize) numberSize b) ≤ l → Rises i l → rising 0 (viewNumbers m viewCells b) ≡ false
   rises-fail i l h k r =
-      let v : ℕ = value (part (2 + i * 5) 4 b) in
-      r ∙ next-view i l h ∙ ap (λ (t : Bool). t && rising v (viewNumbers (m - (i + 1)) (2 + (i + 1) * 5) b)) (le-ltb l v k)
+      let v : ℕ = value (part (viewCells + i * viewSize) numberSize b) in
+      r ∙ next-view i l h ∙ ap (λ (t : Bool). t && rising v (viewNumbers (m - (i + 1)) (viewCells + (i + 1) * viewSize) b)) (le-ltb l v k)
 
-  pub rises-done : (i l : ℕ) → m ≤ i → Rises i l → rising 0 (viewNumbers m 2 b) ≡ true
+  pub rises-done : (i l : ℕ) → m ≤ i → Rises i l → rising 0 (viewNumbers m viewCells b) ≡ true
   unfolding viewNumbers rising
   rises-done i l h r =
       let z : m - i ≡ 0 = omega arith in
-      r ∙ ap (λ (j : ℕ). rising l (viewNumbers j (2 + i * 5) b)) z
+      r ∙ ap (λ (j : ℕ). rising l (viewNumbers j (viewCells + i * viewSize) b)) z
 
 -- the table of views: a count, the cells, and the numbers rise
-module _ (n : ℕ) (b : List ℕ) (h : 162 ≤ length b) where
-  views-parts : viewsForm n .valid (part 1 161 b)
-      ≡ (leb (getD b 1 0) 32 && cells (viewForm n) (getD b 1 0) 32 .valid (part 2 160 b)) && rising 0 (numbersOf (bounded (viewForm n) 32 .decode (part 1 161 b)))
-  unfolding viewsForm mapped viewList guarded numbersRise maxViews
-  views-parts = ap (λ (t : Bool). t && rising 0 (numbersOf (bounded (viewForm n) 32 .decode (part 1 161 b)))) (bounded-part (viewForm n) 32 1 b h)
+module _ (n : ℕ) (b : List ℕ) (h : entriesAt ≤ length b) where
+  views-parts : viewsForm n .valid (part viewsAt viewsSize b)
+      ≡ (leb (getD b viewsAt 0) maxViews && cells (viewForm n) (getD b viewsAt 0) maxViews .valid (part viewCells (maxViews * viewSize) b)) && rising 0 (numbersOf (bounded (viewForm n) maxViews .decode (part viewsAt viewsSize b)))
+  unfolding viewsForm mapped viewList guarded numbersRise
+  views-parts = ap (λ (t : Bool). t && rising 0 (numbersOf (bounded (viewForm n) maxViews .decode (part viewsAt viewsSize b)))) (bounded-part (viewForm n) maxViews viewsAt b h)
 
-  pub views-over : 32 < getD b 1 0 → viewsForm n .valid (part 1 161 b) ≡ false
+  pub views-over : maxViews < getD b viewsAt 0 → viewsForm n .valid (part viewsAt viewsSize b) ≡ false
   views-over l =
       views-parts
-      ∙ ap (λ (t : Bool). (t && cells (viewForm n) (getD b 1 0) 32 .valid (part 2 160 b)) && rising 0 (numbersOf (bounded (viewForm n) 32 .decode (part 1 161 b)))) (lt-leb (getD b 1 0) 32 l)
+      ∙ ap (λ (t : Bool). (t && cells (viewForm n) (getD b viewsAt 0) maxViews .valid (part viewCells (maxViews * viewSize) b)) && rising 0 (numbersOf (bounded (viewForm n) maxViews .decode (part viewsAt viewsSize b)))) (lt-leb (getD b viewsAt 0) maxViews l)
 
-  pub views-count : viewsForm n .valid (part 1 161 b) ≡ true → getD b 1 0 ≤ 32
+  pub views-count : viewsForm n .valid (part viewsAt viewsSize b) ≡ true → getD b viewsAt 0 ≤ maxViews
   views-count v =
-      let p = and-eq-true-iff (leb (getD b 1 0) 32 && cells (viewForm n) (getD b 1 0) 32 .valid (part 2 160 b)) (rising 0 (numbersOf (bounded (viewForm n) 32 .decode (part 1 161 b)))) .0 (sym views-parts ∙ v) in
-      leb-true (getD b 1 0) 32 (and-eq-true-iff (leb (getD b 1 0) 32) (cells (viewForm n) (getD b 1 0) 32 .valid (part 2 160 b)) .0 (p .0) .0)
+      let p = and-eq-true-iff (leb (getD b viewsAt 0) maxViews && cells (viewForm n) (getD b viewsAt 0) maxViews .valid (part viewCells (maxViews * viewSize) b)) (rising 0 (numbersOf (bounded (viewForm n) maxViews .decode (part viewsAt viewsSize b)))) .0 (sym views-parts ∙ v) in
+      leb-true (getD b viewsAt 0) maxViews (and-eq-true-iff (leb (getD b viewsAt 0) maxViews) (cells (viewForm n) (getD b viewsAt 0) maxViews .valid (part viewCells (maxViews * viewSize) b)) .0 (p .0) .0)
 
   -- the numbers of the views
-  pub views-created : getD b 1 0 ≤ 32 → viewsForm n .decode (part 1 161 b) .0 ≡ viewNumbers (getD b 1 0) 2 b
-  unfolding viewsForm mapped viewList guarded maxViews
-  views-created l = ap numbersOf (bounded-value (viewForm n) 32 1 b h l) ∙ numbers-of-views n (getD b 1 0) 2 b
+  pub views-created : getD b viewsAt 0 ≤ maxViews → viewsForm n .decode (part viewsAt viewsSize b) .0 ≡ viewNumbers (getD b viewsAt 0) viewCells b
+  unfolding viewsForm mapped viewList guarded
+  views-created l = ap numbersOf (bounded-value (viewForm n) maxViews viewsAt b h l) ∙ numbers-of-views n (getD b viewsAt 0) viewCells b
 
-  pub views-part : getD b 1 0 ≤ 32 → viewsForm n .valid (part 1 161 b)
-      ≡ cells (viewForm n) (getD b 1 0) 32 .valid (part 2 160 b) && rising 0 (viewNumbers (getD b 1 0) 2 b)
+  pub views-part : getD b viewsAt 0 ≤ maxViews → viewsForm n .valid (part viewsAt viewsSize b)
+      ≡ cells (viewForm n) (getD b viewsAt 0) maxViews .valid (part viewCells (maxViews * viewSize) b) && rising 0 (viewNumbers (getD b viewsAt 0) viewCells b)
   views-part l =
       views-parts
-      ∙ ap₂ (λ (t : Bool) (x : List ℕ). (t && cells (viewForm n) (getD b 1 0) 32 .valid (part 2 160 b)) && rising 0 x) (le-leb (getD b 1 0) 32 l)
-      (ap numbersOf (bounded-value (viewForm n) 32 1 b h l) ∙ numbers-of-views n (getD b 1 0) 2 b)
+      ∙ ap₂ (λ (t : Bool) (x : List ℕ). (t && cells (viewForm n) (getD b viewsAt 0) maxViews .valid (part viewCells (maxViews * viewSize) b)) && rising 0 x) (le-leb (getD b viewsAt 0) maxViews l)
+      (ap numbersOf (bounded-value (viewForm n) maxViews viewsAt b h l) ∙ numbers-of-views n (getD b viewsAt 0) viewCells b)
 
 -- ## The other tables
 
-entries-part : (n : ℕ) (b : List ℕ) → 162 < length b
-    → entriesForm n .valid (part 162 641 b) ≡ leb (getD b 162 0) 64 && cells (entryForm n) (getD b 162 0) 64 .valid (part entryCells 640 b)
-unfolding entriesForm table mapped maxEntries
+entries-part : (n : ℕ) (b : List ℕ) → entriesAt < length b
+    → entriesForm n .valid (part entriesAt entriesSize b) ≡ leb (getD b entriesAt 0) maxEntries && cells (entryForm n) (getD b entriesAt 0) maxEntries .valid (part entryCells (maxEntries * entrySize) b)
+unfolding entriesForm table mapped
 entries-part n b h =
-    let c : ℕ = getD b 162 0 in
+    let c : ℕ = getD b entriesAt 0 in
     let e : c + 0 ≡ c = omega arith in
-    given-part (byte 0 64) (λ m. table (entryForm n) (numbers 1 m) 64 blankEntry) 162 b
-    ∙ ap₂ (λ (t : Bool) (m : ℕ). t && cells (entryForm n) m 64 .valid (part entryCells 640 b))
-    (byte-part 0 64 162 b h ∙ ap (λ (t : Bool). t && leb c 64) (leb·zero c))
-    (length-numbers 1 (byte 0 64 .decode (part 162 1 b)) ∙ number-decode 0 0 64 162 b h ∙ e)
+    given-part (byte 0 maxEntries) (λ m. table (entryForm n) (numbers 1 m) maxEntries blankEntry) entriesAt b
+    ∙ ap₂ (λ (t : Bool) (m : ℕ). t && cells (entryForm n) m maxEntries .valid (part entryCells (maxEntries * entrySize) b))
+    (byte-part 0 maxEntries entriesAt b h ∙ ap (λ (t : Bool). t && leb c maxEntries) (leb·zero c))
+    (length-numbers 1 (byte 0 maxEntries .decode (part entriesAt 1 b)) ∙ number-decode 0 0 maxEntries entriesAt b h ∙ e)
 
-pub entries-over : (n : ℕ) (b : List ℕ) → 162 < length b → 64 < getD b 162 0 → entriesForm n .valid (part 162 641 b) ≡ false
-entries-over n b h l = entries-part n b h ∙ rw (lt-leb (getD b 162 0) 64 l)
+pub entries-over : (n : ℕ) (b : List ℕ) → entriesAt < length b → maxEntries < getD b entriesAt 0 → entriesForm n .valid (part entriesAt entriesSize b) ≡ false
+entries-over n b h l = entries-part n b h ∙ rw (lt-leb (getD b entriesAt 0) maxEntries l)
 
-pub entries-within : (n : ℕ) (b : List ℕ) → 162 < length b → getD b 162 0 ≤ 64
-    → entriesForm n .valid (part 162 641 b) ≡ cells (entryForm n) (getD b 162 0) 64 .valid (part entryCells 640 b)
-entries-within n b h l = entries-part n b h ∙ rw (le-leb (getD b 162 0) 64 l)
+pub entries-within : (n : ℕ) (b : List ℕ) → entriesAt < length b → getD b entriesAt 0 ≤ maxEntries
+    → entriesForm n .valid (part entriesAt entriesSize b) ≡ cells (entryForm n) (getD b entriesAt 0) maxEntries .valid (part entryCells (maxEntries * entrySize) b)
+entries-within n b h l = entries-part n b h ∙ rw (le-leb (getD b entriesAt 0) maxEntries l)
 
-body-part : (n m : ℕ) (v : Views) (b : List ℕ) → length (v .0) ≡ m → bodyForm n v .valid (part 162 59537 b) ≡ tablesIn n m b
-unfolding bodyForm recordersForm networkForm queuesForm rowForm table mapped maxRecorders maxViews tablesIn
+body-part : (n m : ℕ) (v : Views) (b : List ℕ) → length (v .0) ≡ m → bodyForm n v .valid (part entriesAt bodySize b) ≡ tablesIn n m b
+unfolding bodyForm recordersForm networkForm queuesForm rowForm table mapped tablesIn
 body-part n m v b e =
-    pair-part (entriesForm n) _ 162 b (pair-part (recordersForm n) _ 803 b (pair-part (networkForm n (v .0)) (queuesForm (v .0)) 3091 b refl))
-    ∙ ap₂ (λ (k l : ℕ). entriesForm n .valid (part 162 641 b)
-    && (cells recorderForm k 8 .valid (part recordersAt 2288 b)
-    && (cells (rowForm (v .0)) k 8 .valid (part networkAt 51968 b) && cells queueForm l 32 .valid (part queuesAt 4640 b)))) (length-numbers 1 n) e
-    ∙ ap (λ (t : Bool). entriesForm n .valid (part 162 641 b) && (cells recorderForm n 8 .valid (part recordersAt 2288 b) && (t && cells queueForm m 32 .valid (part queuesAt 4640 b))))
-    (cells-same (rowForm (v .0)) (cells placeForm m 32) (λ x. ap (λ (l : ℕ). cells placeForm l 32 .valid x) e) n 8 (part networkAt 51968 b))
+    pair-part (entriesForm n) _ entriesAt b (pair-part (recordersForm n) _ recordersAt b (pair-part (networkForm n (v .0)) (queuesForm (v .0)) networkAt b refl))
+    ∙ ap₂ (λ (k l : ℕ). entriesForm n .valid (part entriesAt entriesSize b)
+    && (cells recorderForm k maxRecorders .valid (part recordersAt recordersSize b)
+    && (cells (rowForm (v .0)) k maxRecorders .valid (part networkAt networkSize b) && cells queueForm l maxViews .valid (part queuesAt queuesSize b)))) (length-numbers 1 n) e
+    ∙ ap (λ (t : Bool). entriesForm n .valid (part entriesAt entriesSize b) && (cells recorderForm n maxRecorders .valid (part recordersAt recordersSize b) && (t && cells queueForm m maxViews .valid (part queuesAt queuesSize b))))
+    (cells-same (rowForm (v .0)) (cells placeForm m maxViews) (λ x. ap (λ (l : ℕ). cells placeForm l maxViews .valid x) e) n maxRecorders (part networkAt networkSize b))
 
 -- ## The whole
 
 module _ (b : List ℕ) (h : storedLength ≤ length b) where
   whole : hallFields .valid (take storedLength b)
-      ≡ byte 1 8 .valid (part 0 1 b)
-      && (viewsForm (getD b 0 0) .valid (part 1 161 b) && bodyForm (getD b 0 0) (viewsForm (getD b 0 0) .decode (part 1 161 b)) .valid (part 162 59537 b))
-  unfolding hallFields renamed mapped fields afterSize maxRecorders
+      ≡ byte 1 maxRecorders .valid (part 0 1 b)
+      && (viewsForm (getD b 0 0) .valid (part viewsAt viewsSize b) && bodyForm (getD b 0 0) (viewsForm (getD b 0 0) .decode (part viewsAt viewsSize b)) .valid (part entriesAt bodySize b))
+  unfolding hallFields renamed mapped fields afterSize
   whole =
       let e : getD b 0 0 + 0 ≡ getD b 0 0 = omega arith in
-      given-part (byte 1 8) afterSize 0 b
-      ∙ ap (λ (n : ℕ). byte 1 8 .valid (part 0 1 b) && afterSize n .valid (part 1 59698 b)) (number-decode 0 1 8 0 b (omega arith) ∙ e)
-      ∙ ap (λ (t : Bool). byte 1 8 .valid (part 0 1 b) && t) (given-part (viewsForm (getD b 0 0)) (bodyForm (getD b 0 0)) 1 b)
+      given-part (byte 1 maxRecorders) afterSize 0 b
+      ∙ ap (λ (n : ℕ). byte 1 maxRecorders .valid (part 0 1 b) && afterSize n .valid (part viewsAt restSize b)) (number-decode 0 1 maxRecorders 0 b (omega arith) ∙ e)
+      ∙ ap (λ (t : Bool). byte 1 maxRecorders .valid (part 0 1 b) && t) (given-part (viewsForm (getD b 0 0)) (bodyForm (getD b 0 0)) viewsAt b)
 
   -- of a whole in range, its counts are
   pub whole-parts : hallFields .valid (take storedLength b) ≡ true
-      → (byte 1 8 .valid (part 0 1 b) ≡ true) × (viewsForm (getD b 0 0) .valid (part 1 161 b) ≡ true)
+      → (byte 1 maxRecorders .valid (part 0 1 b) ≡ true) × (viewsForm (getD b 0 0) .valid (part viewsAt viewsSize b) ≡ true)
   whole-parts v =
-      let t = bodyForm (getD b 0 0) (viewsForm (getD b 0 0) .decode (part 1 161 b)) .valid (part 162 59537 b) in
-      let p = and-eq-true-iff (byte 1 8 .valid (part 0 1 b)) (viewsForm (getD b 0 0) .valid (part 1 161 b) && t) .0 (sym whole ∙ v) in
-      (p .0, and-eq-true-iff (viewsForm (getD b 0 0) .valid (part 1 161 b)) t .0 (p .1) .0)
+      let t = bodyForm (getD b 0 0) (viewsForm (getD b 0 0) .decode (part viewsAt viewsSize b)) .valid (part entriesAt bodySize b) in
+      let p = and-eq-true-iff (byte 1 maxRecorders .valid (part 0 1 b)) (viewsForm (getD b 0 0) .valid (part viewsAt viewsSize b) && t) .0 (sym whole ∙ v) in
+      (p .0, and-eq-true-iff (viewsForm (getD b 0 0) .valid (part viewsAt viewsSize b)) t .0 (p .1) .0)
 
-  pub no-size : byte 1 8 .valid (part 0 1 b) ≡ false → hallFields .valid (take storedLength b) ≡ false
+  pub no-size : byte 1 maxRecorders .valid (part 0 1 b) ≡ false → hallFields .valid (take storedLength b) ≡ false
   no-size e = whole ∙ rw e
 
-  pub no-views : byte 1 8 .valid (part 0 1 b) ≡ true → viewsForm (getD b 0 0) .valid (part 1 161 b) ≡ false → hallFields .valid (take storedLength b) ≡ false
+  pub no-views : byte 1 maxRecorders .valid (part 0 1 b) ≡ true → viewsForm (getD b 0 0) .valid (part viewsAt viewsSize b) ≡ false → hallFields .valid (take storedLength b) ≡ false
   no-views e f = whole ∙ rw (e, f)
 
-  pub whole-tables : byte 1 8 .valid (part 0 1 b) ≡ true → viewsForm (getD b 0 0) .valid (part 1 161 b) ≡ true
-      → hallFields .valid (take storedLength b) ≡ tablesIn (getD b 0 0) (getD b 1 0) b
+  pub whole-tables : byte 1 maxRecorders .valid (part 0 1 b) ≡ true → viewsForm (getD b 0 0) .valid (part viewsAt viewsSize b) ≡ true
+      → hallFields .valid (take storedLength b) ≡ tablesIn (getD b 0 0) (getD b viewsAt 0) b
   whole-tables e f =
       let n : ℕ = getD b 0 0 in
-      let v : Views = viewsForm n .decode (part 1 161 b) in
+      let v : Views = viewsForm n .decode (part viewsAt viewsSize b) in
       let l = views-count n b (omega arith) f in
       whole ∙ rw (e, f)
-      (body-part n (getD b 1 0) v b (ap length (views-created n b (omega arith) l) ∙ length-viewNumbers (getD b 1 0) 2 b))
+      (body-part n (getD b viewsAt 0) v b (ap length (views-created n b (omega arith) l) ∙ length-viewNumbers (getD b viewsAt 0) viewCells b))

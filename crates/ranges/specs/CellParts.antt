@@ -7,7 +7,9 @@ use Rattle.codec.specs.Bytes.{part}
 use Rattle.codec.specs.Form.{Form}
 use Rattle.codec.specs.Number.{mark}
 use Rattle.codec.specs.Table.{flags}
+use Rattle.model.specs.Hall.{maxEntries, maxOrder, maxRecorders}
 use Rattle.store.specs.CellForms.{viewNumber}
+use Rattle.store.specs.Layout.{numberSize}
 
 -- a label's view number and sequence number, both 0 or neither
 unfoldable pub wholeLabel : ℕ → ℕ → Bool
@@ -17,9 +19,9 @@ module _ (o : ℕ) (b : List ℕ) where
   -- what follows a recorder's order: marks, highest primary, sets
   unfoldable pub recorderRest : Bool
   recorderRest =
-      mark 65 .valid (part o 1 b)
-      && (mark 65 .valid (part (o + 1) 1 b)
-      && (viewNumber .valid (part (o + 1 + 1) 4 b)
-      && (flags 64 .valid (part (o + 1 + 1 + 4) 64 b)
-      && (flags 64 .valid (part (o + 1 + 1 + 4 + 64) 64 b)
-      && (flags 8 .valid (part (o + 1 + 1 + 4 + 64 + 64) 8 b) && flags 8 .valid (part (o + 1 + 1 + 4 + 64 + 64 + 8) 8 b))))))
+      mark (maxOrder + 1) .valid (part o 1 b)
+      && (mark (maxOrder + 1) .valid (part (o + 1) 1 b)
+      && (viewNumber .valid (part (o + 1 + 1) numberSize b)
+      && (flags maxEntries .valid (part (o + 1 + 1 + numberSize) maxEntries b)
+      && (flags maxEntries .valid (part (o + 1 + 1 + numberSize + maxEntries) maxEntries b)
+      && (flags maxRecorders .valid (part (o + 1 + 1 + numberSize + maxEntries + maxEntries) maxRecorders b) && flags maxRecorders .valid (part (o + 1 + 1 + numberSize + maxEntries + maxEntries + maxRecorders) maxRecorders b))))))

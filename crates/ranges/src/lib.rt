@@ -8,12 +8,31 @@ ghost use Rattle.codec.specs.Number.{byte, mark};
 ghost use Rattle.codec.specs.Cells.{cells};
 ghost use Rattle.codec.specs.Table.{flags};
 ghost use Rattle.quorum.specs.Sets.{rising};
-ghost use Rattle.store.specs.Layout.{viewsAt, viewCells, viewSize, entriesAt, entryCells, entrySize, recordersAt, recorderSize, networkAt, placeSize, rowSize, summarySize, queuesAt, queueSize, storedLength};
+ghost use Rattle.model.specs.Hall.{maxEntries, maxViews, maxQueue, maxRecorders};
+ghost use Rattle.store.specs.Layout.{viewsAt, viewCells, viewSize, entriesAt, entryCells, entrySize, recordersAt, recorderSize, networkAt, placeSize, rowSize, summarySize, queuesAt, queueSize, storedLength, numberSize, setsSize, sentSize, queuedSize, messagesSize, viewsSize, entriesSize, recordersSize, networkSize, queuesSize};
 ghost use Rattle.store.specs.CellForms.{viewNumber, entryForm, summaryForm, sentForm, recorderForm, placeForm, queuedForm, queueForm};
 ghost use Rattle.store.specs.ViewForm.{viewForm, viewsForm};
 ghost use Rattle.store.specs.HallForm.{entriesForm, hallFields};
 ghost use Rattle.ranges.specs.CellParts.{wholeLabel, recorderRest};
 ghost use Rattle.ranges.specs.TableParts.{viewNumbers, tablesIn};
+use model::limits;
+use model::phases;
+use store::layout;
+
+// The limits as bytes; a mark runs to one past the end of its list.
+const ENTRIES: u8 = limits::MAX_ENTRIES as u8;
+
+const RECORDERS: u8 = limits::MAX_RECORDERS as u8;
+
+const ALL: u8 = quorum::ALL as u8;
+
+const SEQUENCE: u8 = limits::MAX_SEQUENCE as u8;
+
+const SEQUENCE_MARK: u8 = SEQUENCE + 1;
+
+const ORDER_MARK: u8 = limits::MAX_ORDER as u8 + 1;
+
+const QUEUE_MARK: u8 = limits::MAX_QUEUE as u8 + 1;
 
 // Do both hold?
 fn both(a: bool, b: bool) -> bool
@@ -41,10 +60,10 @@ fn valid_mark(b: &[u8], at: usize, hi: u8) -> bool
 
 // Are the four bytes at an offset a view number, or 0 for none?
 fn valid_view_number(b: &[u8], at: usize) -> bool
-    requires { ⌜ at + 4 ≤ length (now b) ⌝ }
-    ensures { λ r. ⌜ r ≡ viewNumber .valid (part at 4 (now (b .entry))) ⌝ }
+    requires { ⌜ at + numberSize ≤ length (now b) ⌝ }
+    ensures { λ r. ⌜ r ≡ viewNumber .valid (part at numberSize (now (b .entry))) ⌝ }
 {
-    codec::get_u32(b, at) <= 255
+    codec::get_u32(b, at) <= limits::MAX_NUMBER
 }
 
 // Are the n bytes at an offset flags, 0 or 1?
@@ -64,31 +83,31 @@ fn whole_label(view: u32, seq: u8) -> bool
 
 // An entry of a hall of n recorders: "sender, 32-bit value, and a label or none".
 fn valid_entry(b: &[u8], at: usize, n: u8) -> bool
-    requires { ⌜ at + 10 ≤ length (now b) ⌝ }
+    requires { ⌜ at + entrySize ≤ length (now b) ⌝ }
     ensures { λ r. ⌜ r ≡ entryForm n .valid (part at entrySize (now (b .entry))) ⌝ }
 {
-    let view = at + 1 + 4;
-    let seq = view + 4;
+    let view = at + layout::ENTRY_PAYLOAD + layout::PAYLOAD;
+    let seq = view + layout::NUMBER;
     let ranges = both(
         valid_byte(b, at, 1, n),
-        both(valid_view_number(b, view), valid_byte(b, seq, 0, 64)),
+        both(valid_view_number(b, view), valid_byte(b, seq, 0, SEQUENCE)),
     );
     both(ranges, whole_label(codec::get_u32(b, view), b[seq]))
 }
 
 // "A summary is known entries, order, confirm mark, highest primary."
 fn valid_summary(b: &[u8], at: usize) -> bool
-    requires { ⌜ at + 134 ≤ length (now b) ⌝ }
+    requires { ⌜ at + summarySize ≤ length (now b) ⌝ }
     ensures { λ r. ⌜ r ≡ summaryForm .valid (part at summarySize (now (b .entry))) ⌝ }
 {
-    let order = at + 64;
-    let confirm = order + 65;
+    let order = at + layout::SUMMARY_ORDER;
+    let confirm = order + layout::ORDER;
     both(
-        valid_flags(b, at, 64),
+        valid_flags(b, at, limits::MAX_ENTRIES),
         both(
-            codec::valid_list(b, order, 64, 1, 64),
+            codec::valid_list(b, order, limits::MAX_ORDER, 1, ENTRIES),
             both(
-                valid_mark(b, confirm, 65),
+                valid_mark(b, confirm, ORDER_MARK),
                 valid_view_number(b, confirm + 1),
             ),
         ),
@@ -97,12 +116,12 @@ fn valid_summary(b: &[u8], at: usize) -> bool
 
 // "At most one sent summary": a count, and the summary or zeros.
 fn valid_sent(b: &[u8], at: usize) -> bool
-    requires { ⌜ at + 135 ≤ length (now b) ⌝ }
-    ensures { λ r. ⌜ r ≡ sentForm .valid (part at 135 (now (b .entry))) ⌝ }
+    requires { ⌜ at + sentSize ≤ length (now b) ⌝ }
+    ensures { λ r. ⌜ r ≡ sentForm .valid (part at sentSize (now (b .entry))) ⌝ }
 {
     let count = b[at];
     if count == 0 {
-        return codec::is_zero(b, at + 1, at + 135);
+        return codec::is_zero(b, at + 1, at + layout::SENT);
     }
     if count == 1 {
         return valid_summary(b, at + 1);
@@ -112,24 +131,27 @@ fn valid_sent(b: &[u8], at: usize) -> bool
 
 // A recorder's fields after its order: marks, highest primary, known, safe, heard, safe sources.
 fn valid_recorder_rest(b: &[u8], at: usize) -> bool
-    requires { ⌜ at + 150 ≤ length (now b) ⌝ }
+    requires { ⌜ at + (1 + (1 + (numberSize + setsSize))) ≤ length (now b) ⌝ }
     ensures { λ r. ⌜ r ≡ recorderRest at (now (b .entry)) ⌝ }
 {
     let report = at + 1;
     let high = report + 1;
-    let known = high + 4;
-    let safe = known + 64;
-    let heard = safe + 64;
-    let marks = valid_mark(b, at, 65);
-    let sources = both(valid_flags(b, heard, 8), valid_flags(b, heard + 8, 8));
+    let known = high + layout::NUMBER;
+    let safe = known + limits::MAX_ENTRIES;
+    let heard = safe + limits::MAX_ENTRIES;
+    let marks = valid_mark(b, at, ORDER_MARK);
+    let sources = both(
+        valid_flags(b, heard, limits::MAX_RECORDERS),
+        valid_flags(b, heard + limits::MAX_RECORDERS, limits::MAX_RECORDERS),
+    );
     let sets = both(
-        valid_flags(b, known, 64),
-        both(valid_flags(b, safe, 64), sources),
+        valid_flags(b, known, limits::MAX_ENTRIES),
+        both(valid_flags(b, safe, limits::MAX_ENTRIES), sources),
     );
     both(
         marks,
         both(
-            valid_mark(b, report, 65),
+            valid_mark(b, report, ORDER_MARK),
             both(valid_view_number(b, high), sets),
         ),
     )
@@ -137,75 +159,78 @@ fn valid_recorder_rest(b: &[u8], at: usize) -> bool
 
 // "For each recorder: current view, phase, known entries, .."
 fn valid_recorder(b: &[u8], at: usize) -> bool
-    requires { ⌜ at + 286 ≤ length (now b) ⌝ }
+    requires { ⌜ at + recorderSize ≤ length (now b) ⌝ }
     ensures { λ r. ⌜ r ≡ recorderForm .valid (part at recorderSize (now (b .entry))) ⌝ }
 {
-    let phase = at + 4;
+    let phase = at + layout::NUMBER;
     let next = phase + 1;
     let buffer = next + 1;
-    let order = buffer + 65;
+    let order = buffer + layout::BUFFER;
     let lists = both(
-        codec::valid_list(b, buffer, 64, 1, 64),
+        codec::valid_list(b, buffer, limits::MAX_BUFFER, 1, ENTRIES),
         both(
-            codec::valid_list(b, order, 64, 1, 64),
-            valid_recorder_rest(b, order + 65),
+            codec::valid_list(b, order, limits::MAX_ORDER, 1, ENTRIES),
+            valid_recorder_rest(b, order + layout::ORDER),
         ),
     );
     both(
         valid_view_number(b, at),
         both(
-            valid_byte(b, phase, 0, 2),
-            both(valid_mark(b, next, 65), lists),
+            valid_byte(b, phase, phases::NORMAL, phases::COLLECT),
+            both(valid_mark(b, next, SEQUENCE_MARK), lists),
         ),
     )
 }
 
 // "For each recorder and view: a pending list, receive and safe marks, and at most one sent summary."
 fn valid_place(b: &[u8], at: usize) -> bool
-    requires { ⌜ at + 203 ≤ length (now b) ⌝ }
+    requires { ⌜ at + placeSize ≤ length (now b) ⌝ }
     ensures { λ r. ⌜ r ≡ placeForm .valid (part at placeSize (now (b .entry))) ⌝ }
 {
-    let receive = at + 66;
+    let receive = at + layout::PENDING;
     let safe = receive + 1;
     both(
-        codec::valid_list(b, at, 65, 0, 64),
+        codec::valid_list(b, at, limits::MAX_PENDING, 0, ENTRIES),
         both(
-            valid_mark(b, receive, 73),
-            both(valid_mark(b, safe, 73), valid_sent(b, safe + 1)),
+            valid_mark(b, receive, QUEUE_MARK),
+            both(valid_mark(b, safe, QUEUE_MARK), valid_sent(b, safe + 1)),
         ),
     )
 }
 
 // A queued message "with its source".
 fn valid_queued(b: &[u8], at: usize) -> bool
-    requires { ⌜ at + 2 ≤ length (now b) ⌝ }
-    ensures { λ r. ⌜ r ≡ queuedForm .valid (part at 2 (now (b .entry))) ⌝ }
+    requires { ⌜ at + queuedSize ≤ length (now b) ⌝ }
+    ensures { λ r. ⌜ r ≡ queuedForm .valid (part at queuedSize (now (b .entry))) ⌝ }
 {
-    both(valid_byte(b, at, 1, 8), valid_byte(b, at + 1, 0, 64))
+    both(
+        valid_byte(b, at, 1, RECORDERS),
+        valid_byte(b, at + layout::QUEUED_MESSAGE, 0, ENTRIES),
+    )
 }
 
 // The m messages of a queue, and zeros.
 fn valid_messages(b: &[u8], at: usize, m: usize) -> bool
-    requires { ⌜ (m ≤ 72) × (at + 144 ≤ length (now b)) ⌝ }
-    ensures { λ r. ⌜ r ≡ cells queuedForm m 72 .valid (part at 144 (now (b .entry))) ⌝ }
+    requires { ⌜ (m ≤ maxQueue) × (at + messagesSize ≤ length (now b)) ⌝ }
+    ensures { λ r. ⌜ r ≡ cells queuedForm m maxQueue .valid (part at messagesSize (now (b .entry))) ⌝ }
 {
     let mut i = 0;
     while i < m {
-        if !valid_queued(b, at + i * 2) {
+        if !valid_queued(b, at + i * layout::QUEUED) {
             return false;
         }
         i += 1;
     }
-    codec::is_zero(b, at + m * 2, at + 144)
+    codec::is_zero(b, at + m * layout::QUEUED, at + layout::MESSAGES)
 }
 
 // "A view's queue holds at most 72 messages, each with its source."
 fn valid_queue(b: &[u8], at: usize) -> bool
-    requires { ⌜ at + 145 ≤ length (now b) ⌝ }
+    requires { ⌜ at + queueSize ≤ length (now b) ⌝ }
     ensures { λ r. ⌜ r ≡ queueForm .valid (part at queueSize (now (b .entry))) ⌝ }
 {
     let m = b[at] as usize;
-    if 72 < m {
+    if limits::MAX_QUEUE < m {
         return false;
     }
     valid_messages(b, at + 1, m)
@@ -213,26 +238,26 @@ fn valid_queue(b: &[u8], at: usize) -> bool
 
 // The m entries of a hall of n recorders, and zeros.
 fn valid_entry_cells(b: &[u8], m: usize, n: u8) -> bool
-    requires { ⌜ (m ≤ 64) × (803 ≤ length (now b)) ⌝ }
-    ensures { λ r. ⌜ r ≡ cells (entryForm n) m 64 .valid (part entryCells 640 (now (b .entry))) ⌝ }
+    requires { ⌜ (m ≤ maxEntries) × (recordersAt ≤ length (now b)) ⌝ }
+    ensures { λ r. ⌜ r ≡ cells (entryForm n) m maxEntries .valid (part entryCells (maxEntries * entrySize) (now (b .entry))) ⌝ }
 {
     let mut i = 0;
     while i < m {
-        if !valid_entry(b, 163 + i * 10, n) {
+        if !valid_entry(b, layout::ENTRIES + i * layout::ENTRY, n) {
             return false;
         }
         i += 1;
     }
-    codec::is_zero(b, 163 + m * 10, 803)
+    codec::is_zero(b, layout::ENTRIES + m * layout::ENTRY, layout::RECORDERS)
 }
 
 // "Entries, at most 64 ever submitted."
 fn valid_entries(b: &[u8], n: u8) -> bool
-    requires { ⌜ 803 ≤ length (now b) ⌝ }
-    ensures { λ r. ⌜ r ≡ entriesForm n .valid (part entriesAt 641 (now (b .entry))) ⌝ }
+    requires { ⌜ recordersAt ≤ length (now b) ⌝ }
+    ensures { λ r. ⌜ r ≡ entriesForm n .valid (part entriesAt entriesSize (now (b .entry))) ⌝ }
 {
-    let m = b[162] as usize;
-    if 64 < m {
+    let m = b[layout::ENTRY_COUNT] as usize;
+    if limits::MAX_ENTRIES < m {
         return false;
     }
     valid_entry_cells(b, m, n)
@@ -240,108 +265,108 @@ fn valid_entries(b: &[u8], n: u8) -> bool
 
 // The n recorders, and zeros.
 fn valid_recorders(b: &[u8], n: usize) -> bool
-    requires { ⌜ (n ≤ 8) × (3091 ≤ length (now b)) ⌝ }
-    ensures { λ r. ⌜ r ≡ cells recorderForm n 8 .valid (part recordersAt 2288 (now (b .entry))) ⌝ }
+    requires { ⌜ (n ≤ maxRecorders) × (networkAt ≤ length (now b)) ⌝ }
+    ensures { λ r. ⌜ r ≡ cells recorderForm n maxRecorders .valid (part recordersAt recordersSize (now (b .entry))) ⌝ }
 {
     let mut i = 0;
     while i < n {
-        if !valid_recorder(b, 803 + i * 286) {
+        if !valid_recorder(b, layout::RECORDERS + i * layout::RECORDER) {
             return false;
         }
         i += 1;
     }
-    codec::is_zero(b, 803 + n * 286, 3091)
+    codec::is_zero(b, layout::RECORDERS + n * layout::RECORDER, layout::NETWORK)
 }
 
 // A recorder's places in m views, and zeros.
 fn valid_row(b: &[u8], at: usize, m: usize) -> bool
-    requires { ⌜ (m ≤ 32) × (at + 6496 ≤ length (now b)) ⌝ }
-    ensures { λ r. ⌜ r ≡ cells placeForm m 32 .valid (part at rowSize (now (b .entry))) ⌝ }
+    requires { ⌜ (m ≤ maxViews) × (at + rowSize ≤ length (now b)) ⌝ }
+    ensures { λ r. ⌜ r ≡ cells placeForm m maxViews .valid (part at rowSize (now (b .entry))) ⌝ }
 {
     let mut i = 0;
     while i < m {
-        if !valid_place(b, at + i * 203) {
+        if !valid_place(b, at + i * layout::PLACE) {
             return false;
         }
         i += 1;
     }
-    codec::is_zero(b, at + m * 203, at + 6496)
+    codec::is_zero(b, at + m * layout::PLACE, at + layout::ROW)
 }
 
 // The places of n recorders in m views, and zeros.
 fn valid_network(b: &[u8], n: usize, m: usize) -> bool
-    requires { ⌜ (n ≤ 8) × (m ≤ 32) × (55059 ≤ length (now b)) ⌝ }
-    ensures { λ r. ⌜ r ≡ cells (cells placeForm m 32) n 8 .valid (part networkAt 51968 (now (b .entry))) ⌝ }
+    requires { ⌜ (n ≤ maxRecorders) × (m ≤ maxViews) × (queuesAt ≤ length (now b)) ⌝ }
+    ensures { λ r. ⌜ r ≡ cells (cells placeForm m maxViews) n maxRecorders .valid (part networkAt networkSize (now (b .entry))) ⌝ }
 {
     let mut i = 0;
     while i < n {
-        if !valid_row(b, 3091 + i * 6496, m) {
+        if !valid_row(b, layout::NETWORK + i * layout::ROW, m) {
             return false;
         }
         i += 1;
     }
-    codec::is_zero(b, 3091 + n * 6496, 55059)
+    codec::is_zero(b, layout::NETWORK + n * layout::ROW, layout::QUEUES)
 }
 
 // The queues of m views, and zeros.
 fn valid_queues(b: &[u8], m: usize) -> bool
-    requires { ⌜ (m ≤ 32) × (storedLength ≤ length (now b)) ⌝ }
-    ensures { λ r. ⌜ r ≡ cells queueForm m 32 .valid (part queuesAt 4640 (now (b .entry))) ⌝ }
+    requires { ⌜ (m ≤ maxViews) × (storedLength ≤ length (now b)) ⌝ }
+    ensures { λ r. ⌜ r ≡ cells queueForm m maxViews .valid (part queuesAt queuesSize (now (b .entry))) ⌝ }
 {
     let mut i = 0;
     while i < m {
-        if !valid_queue(b, 55059 + i * 145) {
+        if !valid_queue(b, layout::QUEUES + i * layout::QUEUE) {
             return false;
         }
         i += 1;
     }
-    codec::is_zero(b, 55059 + m * 145, 59699)
+    codec::is_zero(b, layout::QUEUES + m * layout::QUEUE, layout::LENGTH)
 }
 
 // The mask of recorders 1 to n.
 fn full_set(n: u8) -> u8
-    requires { ⌜ (1 ≤ n) × (n ≤ 8) ⌝ }
+    requires { ⌜ (1 ≤ n) × (n ≤ maxRecorders) ⌝ }
     ensures { λ r. ⌜ r ≡ 2 ^ n - 1 ⌝ }
 {
-    255 >> (8 - n)
+    ALL >> (RECORDERS - n)
 }
 
 // A view's number, 1 to 255, and set, "not empty and within N".
 fn valid_view(b: &[u8], at: usize, n: u8) -> bool
-    requires { ⌜ (1 ≤ n) × (n ≤ 8) × (at + 5 ≤ length (now b)) ⌝ }
+    requires { ⌜ (1 ≤ n) × (n ≤ maxRecorders) × (at + viewSize ≤ length (now b)) ⌝ }
     ensures { λ r. ⌜ r ≡ viewForm n .valid (part at viewSize (now (b .entry))) ⌝ }
 {
     let g = codec::get_u32(b, at);
     both(
-        both(1 <= g, g <= 255),
-        valid_byte(b, at + 4, 1, full_set(n)),
+        both(1 <= g, g <= limits::MAX_NUMBER),
+        valid_byte(b, at + layout::VIEW_SET, 1, full_set(n)),
     )
 }
 
 // The m views of a hall of n recorders, and zeros.
 fn valid_view_cells(b: &[u8], m: usize, n: u8) -> bool
-    requires { ⌜ (m ≤ 32) × (1 ≤ n) × (n ≤ 8) × (162 ≤ length (now b)) ⌝ }
-    ensures { λ r. ⌜ r ≡ cells (viewForm n) m 32 .valid (part viewCells 160 (now (b .entry))) ⌝ }
+    requires { ⌜ (m ≤ maxViews) × (1 ≤ n) × (n ≤ maxRecorders) × (entriesAt ≤ length (now b)) ⌝ }
+    ensures { λ r. ⌜ r ≡ cells (viewForm n) m maxViews .valid (part viewCells (maxViews * viewSize) (now (b .entry))) ⌝ }
 {
     let mut i = 0;
     while i < m {
-        if !valid_view(b, 2 + i * 5, n) {
+        if !valid_view(b, layout::VIEWS + i * layout::VIEW, n) {
             return false;
         }
         i += 1;
     }
-    codec::is_zero(b, 2 + m * 5, 162)
+    codec::is_zero(b, layout::VIEWS + m * layout::VIEW, layout::ENTRY_COUNT)
 }
 
 // "Numbers rising."
 fn views_rise(b: &[u8], m: usize) -> bool
-    requires { ⌜ (m ≤ 32) × (162 ≤ length (now b)) ⌝ }
+    requires { ⌜ (m ≤ maxViews) × (entriesAt ≤ length (now b)) ⌝ }
     ensures { λ r. ⌜ r ≡ rising 0 (viewNumbers m viewCells (now (b .entry))) ⌝ }
 {
     let mut last = 0;
     let mut i = 0;
     while i < m {
-        let g = codec::get_u32(b, 2 + i * 5);
+        let g = codec::get_u32(b, layout::VIEWS + i * layout::VIEW);
         if g <= last {
             return false;
         }
@@ -353,11 +378,11 @@ fn views_rise(b: &[u8], m: usize) -> bool
 
 // "The formed views, at most 32, numbers rising, sets not empty and within N."
 fn valid_views(b: &[u8], n: u8) -> bool
-    requires { ⌜ (1 ≤ n) × (n ≤ 8) × (162 ≤ length (now b)) ⌝ }
-    ensures { λ r. ⌜ r ≡ viewsForm n .valid (part viewsAt 161 (now (b .entry))) ⌝ }
+    requires { ⌜ (1 ≤ n) × (n ≤ maxRecorders) × (entriesAt ≤ length (now b)) ⌝ }
+    ensures { λ r. ⌜ r ≡ viewsForm n .valid (part viewsAt viewsSize (now (b .entry))) ⌝ }
 {
-    let m = b[1] as usize;
-    if 32 < m {
+    let m = b[layout::VIEW_COUNT] as usize;
+    if limits::MAX_VIEWS < m {
         return false;
     }
     both(valid_view_cells(b, m, n), views_rise(b, m))
@@ -365,7 +390,7 @@ fn valid_views(b: &[u8], n: u8) -> bool
 
 // The entries, recorders, places and queues of n recorders and m views.
 fn valid_tables(b: &[u8], n: u8, m: usize) -> bool
-    requires { ⌜ (n ≤ 8) × (m ≤ 32) × (storedLength ≤ length (now b)) ⌝ }
+    requires { ⌜ (n ≤ maxRecorders) × (m ≤ maxViews) × (storedLength ≤ length (now b)) ⌝ }
     ensures { λ r. ⌜ r ≡ tablesIn n m (now (b .entry)) ⌝ }
 {
     let k = n as usize;
@@ -383,12 +408,12 @@ pub fn in_range(b: &[u8]) -> bool
     requires { ⌜ storedLength ≤ length (now b) ⌝ }
     ensures { λ r. ⌜ r ≡ hallFields .valid (take storedLength (now (b .entry))) ⌝ }
 {
-    if !valid_byte(b, 0, 1, 8) {
+    if !valid_byte(b, 0, 1, RECORDERS) {
         return false;
     }
     let n = b[0];
     if !valid_views(b, n) {
         return false;
     }
-    valid_tables(b, n, b[1] as usize)
+    valid_tables(b, n, b[layout::VIEW_COUNT] as usize)
 }

@@ -11,7 +11,7 @@ fn replay(file: &[u8], text: &mut [u8]) -> usize
     requires { ⌜ maxLine * 4096 ≤ length (now text) ⌝ }
     ensures { λ r. ⌜ (r ≤ length (now (text .exit))) × (take r (now (text .exit)) ≡ listing hl3 (now (file .entry))) ⌝ }
 {
-    let mut hall = [0u8; 59699];
+    let mut hall = [0u8; replaying::HALL];
     let listed = replaying::list_run(file, &mut hall, text);
     listed.len
 }

@@ -245,7 +245,7 @@ module _ (h : Hall) (f : Facts h) where
       }
 
   keep-enter : (r a : ℕ) → CanEnter h r a → Facts (afterEnter h r a)
-  unfolding newview entered maxSequence maxBuffer
+  unfolding newview entered
   keep-enter r a c =
       let i = member-in (f .views .inRange) a r (c .member) .0 in
       let sent = h .summaries .sent in

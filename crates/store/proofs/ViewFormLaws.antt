@@ -19,14 +19,15 @@ use Rattle.codec.specs.Table.{lookup}
 use Rattle.quorum.specs.Sets.{has, rising}
 use Rattle.quorum.proofs.SetLaws.{rising-cons, rising-above}
 use Rattle.model.specs.Hall.{maxViews, maxNumber}
+use Rattle.store.specs.Layout.{numberSize}
 use Rattle.store.specs.Valid.{ViewsIn}
 use Rattle.store.specs.Masks.{SetOf, setForm}
 use Rattle.store.proofs.MasksLaws.{set-lawful}
 use Rattle.store.specs.ViewForm.{viewForm, numbersOf, setsOf, numbersRise, viewList, Views, toViews, fromViews, ViewsOk, viewsForm}
 
 pub view-lawful : (n : ℕ) → n ≤ 8 → Lawful (viewForm n)
-unfolding viewForm maxNumber
-view-lawful n h = pair-lawful _ _ (number-lawful 4 0 1 maxNumber (lit≤ tt) (lit< tt)) (set-lawful n h)
+unfolding viewForm
+view-lawful n h = pair-lawful _ _ (number-lawful numberSize 0 1 maxNumber (lit≤ tt) (lit< tt)) (set-lawful n h)
 
 pub viewList-lawful : (n : ℕ) → n ≤ 8 → Lawful (viewList n)
 unfolding viewList

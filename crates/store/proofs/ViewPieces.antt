@@ -35,7 +35,7 @@ getD-map f (x ∷ xs) (suc i) d e h = getD-map f xs i d e (le-of-suc-le-suc h)
 -- the formed views of a hall of n recorders
 module _ (n : ℕ) (l : n ≤ maxRecorders) where
   views-view : View hallFields (viewsForm n) viewsAt (λ h. h .size ≡ n) viewsOf
-  unfolding hallFields renamed fields afterSize maxRecorders entryAt recorderAt placeAt
+  unfolding hallFields renamed fields afterSize entryAt recorderAt placeAt
   views-view =
       restated-view
       (mapped-view toHall fromHall (λ h. fields .ok (fromHall h)) (renaming fields toHall fromHall (λ h. refl) (λ t. refl))
@@ -44,7 +44,7 @@ module _ (n : ℕ) (l : n ≤ maxRecorders) where
 
   -- how many they are
   pub viewCount-view : View hallFields (byte 0 maxViews) viewsAt (λ h. h .size ≡ n) (λ h. length (h .service .created))
-  unfolding viewsForm viewList maxViews maxRecorders
+  unfolding viewsForm viewList
   viewCount-view =
       restated-view
       (inner-view views-view
@@ -56,7 +56,7 @@ module _ (n : ℕ) (l : n ≤ maxRecorders) where
   -- number and set of the view at place i
   pub view-view : (i : ℕ) → View hallFields (viewForm n) (viewCells + i * viewSize) (λ h. (h .size ≡ n) × (i < length (h .service .created)))
       (λ h. (getD (h .service .created) i 0, h .service .members (getD (h .service .created) i 0)))
-  unfolding viewsForm viewList maxViews maxRecorders
+  unfolding viewsForm viewList
   view-view i =
       subst (λ (o : ℕ). View hallFields (viewForm n) o on get) (omega arith)
       (restated-view

@@ -6,6 +6,7 @@ use mathlib.Core.List.{List, []}
 use Rattle.codec.specs.Form.{Form, mapped}
 use Rattle.codec.specs.Number.{byte}
 use Rattle.quorum.specs.Sets.{rising, members, mask}
+use Rattle.model.specs.Hall.{maxRecorders}
 use Rattle.store.specs.Valid.{EachIn}
 
 -- a rising list within 1 to n
@@ -15,6 +16,10 @@ SetOf n xs = (rising 0 xs ≡ true) × EachIn n xs
 -- "sets not empty and within N"
 abbrev pub ViewSet : ℕ → List ℕ → Type 0
 ViewSet n xs = SetOf n xs × (xs ≡ [] → ⊥)
+
+-- the mask of all recorders that a hall may have
+abbrev pub fullMask : ℕ
+fullMask = 2 ^ maxRecorders - 1
 
 -- a view's set, as its mask: one byte
 unfoldable pub setForm : ℕ → Form (List ℕ) 1

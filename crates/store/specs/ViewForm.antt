@@ -9,13 +9,13 @@ use Rattle.codec.specs.Bounded.{bounded}
 use Rattle.codec.specs.Table.{lookup}
 use Rattle.quorum.specs.Sets.{rising}
 use Rattle.model.specs.Hall.{maxViews, maxNumber}
-use Rattle.store.specs.Layout.{viewSize}
+use Rattle.store.specs.Layout.{numberSize, viewSize, viewsSize}
 use Rattle.store.specs.Valid.{ViewsIn}
 use Rattle.store.specs.Masks.{setForm}
 
 -- a view's number and set
 unfoldable pub viewForm : ℕ → Form (ℕ × List ℕ) viewSize
-viewForm n = pair (number 4 0 1 maxNumber) (setForm n)
+viewForm n = pair (number numberSize 0 1 maxNumber) (setForm n)
 
 -- the numbers of a list of views, and their sets
 abbrev pub numbersOf : List (ℕ × List ℕ) → List ℕ
@@ -28,8 +28,7 @@ setsOf xs = map (λ (x : ℕ × List ℕ). x .1) xs
 unfoldable pub numbersRise : List (ℕ × List ℕ) → Bool
 numbersRise xs = rising 0 (numbersOf xs)
 
-unfoldable pub viewList : ℕ → Form (List (ℕ × List ℕ)) 161
-unfolding maxViews
+unfoldable pub viewList : ℕ → Form (List (ℕ × List ℕ)) viewsSize
 viewList n = guarded (bounded (viewForm n) maxViews) numbersRise
 
 -- the views as the hall has them: their numbers, and the set of each number
@@ -46,5 +45,5 @@ abbrev pub ViewsOk : ℕ → Views → Type 0
 ViewsOk n v = ViewsIn n (v .0) (v .1)
 
 -- "the formed views, at most 32, numbers rising, sets not empty and within N"
-unfoldable pub viewsForm : ℕ → Form Views 161
+unfoldable pub viewsForm : ℕ → Form Views viewsSize
 viewsForm n = mapped (viewList n) toViews fromViews (ViewsOk n)

@@ -19,52 +19,75 @@ pub const VIEW_SET: usize = NUMBER;
 
 pub const VIEW: usize = VIEW_SET + 1;
 
-// An entry: sender, value, label view, label sequence number.
+// An entry: sender, payload (its value), label view, label sequence number.
+pub const PAYLOAD: usize = WORD;
+
 pub const ENTRY_PAYLOAD: usize = 1;
 
-pub const ENTRY_LABEL: usize = ENTRY_PAYLOAD + WORD;
+pub const ENTRY_LABEL: usize = ENTRY_PAYLOAD + PAYLOAD;
 
 pub const ENTRY_SEQUENCE: usize = ENTRY_LABEL + NUMBER;
 
 pub const ENTRY: usize = ENTRY_SEQUENCE + 1;
 
-// A recorder: current view, phase, next sequence number, buffer, order, confirm mark, report mark, highest primary, known,
-// safe, heard, safe sources.
+// A list of entries: its length, and a byte for each place.
+pub const BUFFER: usize = 1 + MAX_BUFFER;
+
+pub const ORDER: usize = 1 + MAX_ORDER;
+
+pub const PENDING: usize = 1 + MAX_PENDING;
+
+// A recorder's sets: known, safe, heard, safe sources.
+pub const SETS_SAFE: usize = MAX_ENTRIES;
+
+pub const SETS_HEARD: usize = SETS_SAFE + MAX_ENTRIES;
+
+pub const SETS_SAFE_SOURCES: usize = SETS_HEARD + MAX_RECORDERS;
+
+pub const SETS: usize = SETS_SAFE_SOURCES + MAX_RECORDERS;
+
+// A recorder: current view, phase, next sequence number, buffer, order, confirm mark, report mark, highest primary, its
+// sets.
 pub const RECORDER_PHASE: usize = NUMBER;
 
 pub const RECORDER_SEQUENCE: usize = RECORDER_PHASE + 1;
 
 pub const RECORDER_BUFFER: usize = RECORDER_SEQUENCE + 1;
 
-pub const RECORDER_ORDER: usize = RECORDER_BUFFER + 1 + MAX_BUFFER;
+pub const RECORDER_ORDER: usize = RECORDER_BUFFER + BUFFER;
 
-pub const RECORDER_CONFIRM: usize = RECORDER_ORDER + 1 + MAX_ORDER;
+pub const RECORDER_CONFIRM: usize = RECORDER_ORDER + ORDER;
 
 pub const RECORDER_REPORT: usize = RECORDER_CONFIRM + 1;
 
 pub const RECORDER_HIGH: usize = RECORDER_REPORT + 1;
 
-pub const RECORDER_KNOWN: usize = RECORDER_HIGH + NUMBER;
+pub const RECORDER_SETS: usize = RECORDER_HIGH + NUMBER;
 
-pub const RECORDER_SAFE: usize = RECORDER_KNOWN + MAX_ENTRIES;
+pub const RECORDER_KNOWN: usize = RECORDER_SETS;
 
-pub const RECORDER_HEARD: usize = RECORDER_SAFE + MAX_ENTRIES;
+pub const RECORDER_SAFE: usize = RECORDER_SETS + SETS_SAFE;
 
-pub const RECORDER_SAFE_SOURCES: usize = RECORDER_HEARD + MAX_RECORDERS;
+pub const RECORDER_HEARD: usize = RECORDER_SETS + SETS_HEARD;
 
-pub const RECORDER: usize = RECORDER_SAFE_SOURCES + MAX_RECORDERS;
+pub const RECORDER_SAFE_SOURCES: usize = RECORDER_SETS + SETS_SAFE_SOURCES;
+
+pub const RECORDER: usize = RECORDER_SETS + SETS;
 
 // A summary: known, order, confirm mark, highest primary.
 pub const SUMMARY_ORDER: usize = MAX_ENTRIES;
 
-pub const SUMMARY_CONFIRM: usize = SUMMARY_ORDER + 1 + MAX_ORDER;
+pub const SUMMARY_CONFIRM: usize = SUMMARY_ORDER + ORDER;
 
 pub const SUMMARY_HIGH: usize = SUMMARY_CONFIRM + 1;
 
 pub const SUMMARY: usize = SUMMARY_HIGH + NUMBER;
 
+// A place for a summary: sent or not, and the summary.
+pub const SENT: usize = 1 + SUMMARY;
+
 // A recorder's place in a view: pending, receive mark, safe mark, sent, summary.
-pub const PLACE_NEXT: usize = 1 + MAX_PENDING;
+pub const PLACE_NEXT: usize = PENDING;
 
 pub const PLACE_NEXT_SAFE: usize = PLACE_NEXT + 1;
 
@@ -76,16 +99,22 @@ pub const PLACE: usize = PLACE_SUMMARY + SUMMARY;
 
 pub const ROW: usize = MAX_VIEWS * PLACE;
 
-// A queue: its length, and messages of two bytes: source, message.
-pub const QUEUED: usize = 2;
+// A queue: its length, and messages: source, message.
+pub const QUEUED_MESSAGE: usize = 1;
 
-pub const QUEUE: usize = 1 + MAX_QUEUE * QUEUED;
+pub const QUEUED: usize = QUEUED_MESSAGE + 1;
+
+pub const MESSAGES: usize = MAX_QUEUE * QUEUED;
+
+pub const QUEUE: usize = 1 + MESSAGES;
 
 // The whole: N; the formed views, their count first; the entries, their count first; the recorders, recorder r in cell
 // r - 1; the network, a row of places for each recorder, by place among the formed views; the queues, by place likewise.
 pub const VIEW_COUNT: usize = 1;
 
 pub const VIEWS: usize = VIEW_COUNT + 1;
+
+pub const VIEW_SETS: usize = VIEWS + VIEW_SET;
 
 pub const ENTRY_COUNT: usize = VIEWS + MAX_VIEWS * VIEW;
 

@@ -14,6 +14,7 @@ use Rattle.codec.proofs.TableLaws.{by-cases}
 use Rattle.quorum.specs.Sets.{has, recorders}
 use Rattle.quorum.proofs.SetLaws.{has-head, has-later, has-cons, has-there, has-recorders}
 use Rattle.model.specs.Base.{all}
+use Rattle.store.specs.Layout.{viewSize, viewCells}
 use Rattle.ranges.specs.TableParts.{viewNumbers}
 use Rattle.validity.specs.Alls.{viewAt}
 
@@ -86,14 +87,14 @@ module _ (p : ℕ → Bool) where
 module _ (m : ℕ) (b : List ℕ) where
   -- the numbers from place i on
   abbrev pub viewsFrom : ℕ → List ℕ
-  viewsFrom i = viewNumbers (m - i) (2 + i * 5) b
+  viewsFrom i = viewNumbers (m - i) (viewCells + i * viewSize) b
 
   pub views-from : (i : ℕ) → i < m → viewsFrom i ≡ viewAt b i ∷ viewsFrom (i + 1)
   unfolding viewNumbers
   views-from i h =
       let n : m - i ≡ suc (m - (i + 1)) = omega arith in
-      let o : 2 + i * 5 + 5 ≡ 2 + (i + 1) * 5 = omega arith in
-      ap (λ (j : ℕ). viewNumbers j (2 + i * 5) b) n ∙ ap (λ (j : ℕ). viewAt b i ∷ viewNumbers (m - (i + 1)) j b) o
+      let o : viewCells + i * viewSize + viewSize ≡ viewCells + (i + 1) * viewSize = omega arith in
+      ap (λ (j : ℕ). viewNumbers j (viewCells + i * viewSize) b) n ∙ ap (λ (j : ℕ). viewAt b i ∷ viewNumbers (m - (i + 1)) j b) o
 
   pub views-all : viewNumbers m 2 b ≡ viewsFrom 0
   views-all =
@@ -104,7 +105,7 @@ module _ (m : ℕ) (b : List ℕ) where
   unfolding viewNumbers
   views-end i h =
       let z : m - i ≡ 0 = omega arith in
-      ap (λ (j : ℕ). viewNumbers j (2 + i * 5) b) z
+      ap (λ (j : ℕ). viewNumbers j (viewCells + i * viewSize) b) z
 
   module _ (p : ℕ → Bool) where
     views-more : (i : ℕ) → i < m → all p (viewsFrom i) ≡ p (viewAt b i) && all p (viewsFrom (i + 1))

@@ -17,7 +17,8 @@ use Rattle.codec.proofs.SliceLaws.{areBytes-of}
 use Rattle.codec.proofs.TableLaws.{by-cases}
 use Rattle.quorum.specs.Sets.{has, members}
 use Rattle.model.specs.Ordering.{isLabelled}
-use Rattle.store.specs.Layout.{storedLength}
+use Rattle.model.specs.Hall.{maxEntries}
+use Rattle.store.specs.Layout.{storedLength, numberSize, entryLabelAt, entrySequenceAt, entrySize, entryCells}
 use Rattle.store.specs.Valid.{labelledEntry, crossRules}
 use Rattle.store.specs.HallForm.{hallFields, hallForm}
 use Rattle.store.specs.StoredForm.{isStored}
@@ -32,9 +33,9 @@ use Rattle.validity.proofs.CrossPartsLaws.{sender-at, view-at, seq-at, 
 
 -- what the array has at j when i entries are passed
 unfoldable pub labelByte : List ℕ → ℕ → ℕ → ℕ
-labelByte b i j = elim (ltb j i) [ true ↦ getD b (163 + j * 10 + 9) 0 | false ↦ 0 ]
+labelByte b i j = elim (ltb j i) [ true ↦ getD b (entryCells + j * entrySize + entrySequenceAt) 0 | false ↦ 0 ]
 
-passed : (b : List ℕ) (i j : ℕ) → j < i → labelByte b i j ≡ getD b (163 + j * 10 + 9) 0
+passed : (b : List ℕ) (i j : ℕ) → j < i → labelByte b i j ≡ getD b (entryCells + j * entrySize + entrySequenceAt) 0
 unfolding labelByte
 passed b i j h = rw (lt-ltb j i h, labelByte)
 
@@ -42,16 +43,16 @@ ahead : (b : List ℕ) (i j : ℕ) → i ≤ j → labelByte b i j ≡ 0
 unfolding labelByte
 ahead b i j h = rw (le-ltb j i h, labelByte)
 
-pub labels-start : (b : List ℕ) (j : ℕ) → getD (zeros 64) j 0 ≡ labelByte b 0 j
+pub labels-start : (b : List ℕ) (j : ℕ) → getD (zeros maxEntries) j 0 ≡ labelByte b 0 j
 labels-start b j =
-    by-cases (ltb j 64) (λ t. getD-replicate 64 j 0 0 (ltb-true j 64 t)) (λ t. List·getD-eq-default (zeros 64) 0 (past (ltb-false j 64 t)))
+    by-cases (ltb j maxEntries) (λ t. getD-replicate maxEntries j 0 0 (ltb-true j maxEntries t)) (λ t. List·getD-eq-default (zeros maxEntries) 0 (past (ltb-false j maxEntries t)))
     ∙ sym (ahead b 0 j (omega arith))
   where
-    past : 64 ≤ j → length (zeros 64) ≤ j
+    past : maxEntries ≤ j → length (zeros maxEntries) ≤ j
     past h = h
 
 pub labels-next : (b l : List ℕ) (i : ℕ) → i < length l → ((j : ℕ) → getD l j 0 ≡ labelByte b i j)
-    → (j : ℕ) → getD (set l i (getD b (163 + i * 10 + 9) 0)) j 0 ≡ labelByte b (i + 1) j
+    → (j : ℕ) → getD (set l i (getD b (entryCells + i * entrySize + entrySequenceAt) 0)) j 0 ≡ labelByte b (i + 1) j
 labels-next b l i h f j = by-cases (eqb j i) here there
   where
     more : j < i → j < i + 1
@@ -60,18 +61,18 @@ labels-next b l i h f j = by-cases (eqb j i) here there
     after : (j ≡ i → ⊥) → i ≤ j → i + 1 ≤ j
     after ne h = omega arith
 
-    here : eqb j i ≡ true → getD (set l i (getD b (163 + i * 10 + 9) 0)) j 0 ≡ labelByte b (i + 1) j
+    here : eqb j i ≡ true → getD (set l i (getD b (entryCells + i * entrySize + entrySequenceAt) 0)) j 0 ≡ labelByte b (i + 1) j
     here t =
         let e = eqb-true j i t in
-        ap (λ (k : ℕ). getD (set l i (getD b (163 + i * 10 + 9) 0)) k 0) e
-        ∙ getD-set-same l i (getD b (163 + i * 10 + 9) 0) 0 h
+        ap (λ (k : ℕ). getD (set l i (getD b (entryCells + i * entrySize + entrySequenceAt) 0)) k 0) e
+        ∙ getD-set-same l i (getD b (entryCells + i * entrySize + entrySequenceAt) 0) 0 h
         ∙ sym (passed b (i + 1) i (omega arith))
         ∙ ap (labelByte b (i + 1)) (sym e)
 
-    there : eqb j i ≡ false → getD (set l i (getD b (163 + i * 10 + 9) 0)) j 0 ≡ labelByte b (i + 1) j
+    there : eqb j i ≡ false → getD (set l i (getD b (entryCells + i * entrySize + entrySequenceAt) 0)) j 0 ≡ labelByte b (i + 1) j
     there t =
         let ne = eqb-false j i t in
-        getD-set-other l i j (getD b (163 + i * 10 + 9) 0) 0 ne
+        getD-set-other l i j (getD b (entryCells + i * entrySize + entrySequenceAt) 0) 0 ne
         ∙ f j
         ∙ by-cases (ltb j i)
         (λ u. passed b i j (ltb-true j i u) ∙ sym (passed b (i + 1) j (more (ltb-true j i u))))
@@ -88,8 +89,8 @@ labels-done b l K f x = by-cases (ltb x 1) low (λ t. by-cases (ltb (entryCount 
     high : 1 ≤ x → ltb (entryCount b) x ≡ true → marked l x ≡ labelledEntry (raw b .entries) x
     high h t =
         let k = ltb-true (entryCount b) x t in
-        by-cases (ltb 64 x) (λ u. marked-high l x (ltb-true 64 x u))
-        (λ u. marked-in l x h (ltb-false 64 x u) ∙ ap (λ (z : ℕ). not (eqb z 0)) (f (x - 1) ∙ ahead b (entryCount b) (x - 1) (omega arith)))
+        by-cases (ltb maxEntries x) (λ u. marked-high l x (ltb-true maxEntries x u))
+        (λ u. marked-in l x h (ltb-false maxEntries x u) ∙ ap (λ (z : ℕ). not (eqb z 0)) (f (x - 1) ∙ ahead b (entryCount b) (x - 1) (omega arith)))
         ∙ sym (unlabelled b K x (λ g. k))
 
     used : 1 ≤ x → x ≤ entryCount b → marked l x ≡ labelledEntry (raw b .entries) x
@@ -106,22 +107,22 @@ module _ (b : List ℕ) (K : Held hallFields b) (d e : ℕ) (dl : 1 ≤ d) (du :
   apart-same h = rw (eq-eqb d e h)
 
   by-bytes : apart (raw b .entries) d e
-      ≡ (eqb d e || (not (not (eqb (getD b (163 + (d - 1) * 10 + 9) 0) 0))
-      || not (eqb (value (part (163 + (d - 1) * 10 + 5) 4 b)) (value (part (163 + (e - 1) * 10 + 5) 4 b))
-      && (eqb (getD b (163 + (d - 1) * 10 + 9) 0) (getD b (163 + (e - 1) * 10 + 9) 0) && eqb (getD b (163 + (d - 1) * 10) 0) (getD b (163 + (e - 1) * 10) 0)))))
+      ≡ (eqb d e || (not (not (eqb (getD b (entryCells + (d - 1) * entrySize + entrySequenceAt) 0) 0))
+      || not (eqb (value (part (entryCells + (d - 1) * entrySize + entryLabelAt) numberSize b)) (value (part (entryCells + (e - 1) * entrySize + entryLabelAt) numberSize b))
+      && (eqb (getD b (entryCells + (d - 1) * entrySize + entrySequenceAt) 0) (getD b (entryCells + (e - 1) * entrySize + entrySequenceAt) 0) && eqb (getD b (entryCells + (d - 1) * entrySize) 0) (getD b (entryCells + (e - 1) * entrySize) 0)))))
   unfolding apart isLabelled
   by-bytes =
       ap₂ (λ (s t : Bool). eqb d e || (not (not s) || not t)) (ap (λ (k : ℕ). eqb k 0) (seq-at b K d dl du))
       (ap₂ _&&_ (ap₂ eqb (view-at b K d dl du) (view-at b K e el eu))
       (ap₂ _&&_ (ap₂ eqb (seq-at b K d dl du) (seq-at b K e el eu)) (ap₂ eqb (sender-at b K d dl du) (sender-at b K e el eu))))
 
-  pub apart-none : getD b (163 + (d - 1) * 10 + 9) 0 ≡ 0 → apart (raw b .entries) d e ≡ true
-  apart-none h = by-bytes ∙ rw (eq-eqb (getD b (163 + (d - 1) * 10 + 9) 0) 0 h) (or-true (eqb d e))
+  pub apart-none : getD b (entryCells + (d - 1) * entrySize + entrySequenceAt) 0 ≡ 0 → apart (raw b .entries) d e ≡ true
+  apart-none h = by-bytes ∙ rw (eq-eqb (getD b (entryCells + (d - 1) * entrySize + entrySequenceAt) 0) 0 h) (or-true (eqb d e))
 
-  pub apart-labels : (d ≡ e → ⊥) → (getD b (163 + (d - 1) * 10 + 9) 0 ≡ 0 → ⊥) → apart (raw b .entries) d e
-      ≡ not (eqb (value (part (163 + (d - 1) * 10 + 5) 4 b)) (value (part (163 + (e - 1) * 10 + 5) 4 b))
-      && (eqb (getD b (163 + (d - 1) * 10 + 9) 0) (getD b (163 + (e - 1) * 10 + 9) 0) && eqb (getD b (163 + (d - 1) * 10) 0) (getD b (163 + (e - 1) * 10) 0)))
-  apart-labels h k = by-bytes ∙ rw (ne-eqb d e h, ne-eqb (getD b (163 + (d - 1) * 10 + 9) 0) 0 k)
+  pub apart-labels : (d ≡ e → ⊥) → (getD b (entryCells + (d - 1) * entrySize + entrySequenceAt) 0 ≡ 0 → ⊥) → apart (raw b .entries) d e
+      ≡ not (eqb (value (part (entryCells + (d - 1) * entrySize + entryLabelAt) numberSize b)) (value (part (entryCells + (e - 1) * entrySize + entryLabelAt) numberSize b))
+      && (eqb (getD b (entryCells + (d - 1) * entrySize + entrySequenceAt) 0) (getD b (entryCells + (e - 1) * entrySize + entrySequenceAt) 0) && eqb (getD b (entryCells + (d - 1) * entrySize) 0) (getD b (entryCells + (e - 1) * entrySize) 0)))
+  apart-labels h k = by-bytes ∙ rw (ne-eqb d e h, ne-eqb (getD b (entryCells + (d - 1) * entrySize + entrySequenceAt) 0) 0 k)
 
 -- ## Queued messages
 

@@ -23,10 +23,10 @@ use Rattle.codec.specs.Table.{flags}
 use Rattle.quorum.specs.Sets.{has, recorders, members}
 use Rattle.quorum.proofs.SetLaws.{recorders-range, members-range, has-recorders}
 use Rattle.model.specs.Base.{all}
-use Rattle.model.specs.Hall.{maxEntries, maxRecorders, Entries, Message, Message.entry, Message.summary, Queued, Summary, Hall}
+use Rattle.model.specs.Hall.{maxEntries, Entries, Message, Message.entry, Message.summary, Queued, Summary, Hall, maxBuffer, maxOrder, maxRecorders}
 use Rattle.model.specs.Opening.{blankSummary}
 use Rattle.model.specs.Ordering.{isLabelled, numbers}
-use Rattle.store.specs.Layout.{entryCells, entrySize, recordersAt, recorderSize, queuesAt, queueSize}
+use Rattle.store.specs.Layout.{entryCells, entrySize, recordersAt, recorderSize, queuesAt, queueSize, numberSize, payloadSize, entryPayloadAt, entryLabelAt, entrySequenceAt, listSize, recorderBufferAt, recorderOrderAt, recorderKnownAt, recorderSafeAt, recorderHeardAt, recorderSafeSourcesAt, summaryOrderAt, placeSummaryAt}
 use Rattle.store.specs.Valid.{labelsApart, labelledEntry, listNames, setNames, messageNames, messagesName, queueNames, summaryNames, recorderCross, placeCross, crossRules}
 use Rattle.store.specs.Cells.{EntryCell, RecorderCell, entryAt, recorderAt}
 use Rattle.store.specs.CellForms.{messageForm, queuedForm, recorderForm}
@@ -55,23 +55,23 @@ module _ (b : List ℕ) (K : Held hallFields b) where
     unfolding entryAt
     sender-at = ap (λ (x : EntryCell). x .sender) (raw-entry b K e l u)
 
-    pub view-at : raw b .entries .labelView e ≡ value (part (entryCells + (e - 1) * entrySize + 5) 4 b)
+    pub view-at : raw b .entries .labelView e ≡ value (part (entryCells + (e - 1) * entrySize + entryLabelAt) numberSize b)
     unfolding entryAt
     view-at =
-        let s : entryCells + (e - 1) * entrySize + 1 + 4 ≡ entryCells + (e - 1) * entrySize + 5 = omega arith in
-        ap (λ (x : EntryCell). x .labelView) (raw-entry b K e l u) ∙ ap (λ (j : ℕ). value (part j 4 b)) s
+        let s : entryCells + (e - 1) * entrySize + entryPayloadAt + payloadSize ≡ entryCells + (e - 1) * entrySize + entryLabelAt = omega arith in
+        ap (λ (x : EntryCell). x .labelView) (raw-entry b K e l u) ∙ ap (λ (j : ℕ). value (part j numberSize b)) s
 
-    pub seq-at : raw b .entries .labelSeq e ≡ getD b (entryCells + (e - 1) * entrySize + 9) 0
+    pub seq-at : raw b .entries .labelSeq e ≡ getD b (entryCells + (e - 1) * entrySize + entrySequenceAt) 0
     unfolding entryAt
     seq-at =
-        let s : entryCells + (e - 1) * entrySize + 1 + 4 + 4 ≡ entryCells + (e - 1) * entrySize + 9 = omega arith in
+        let s : entryCells + (e - 1) * entrySize + entryPayloadAt + payloadSize + numberSize ≡ entryCells + (e - 1) * entrySize + entrySequenceAt = omega arith in
         ap (λ (x : EntryCell). x .labelSeq) (raw-entry b K e l u) ∙ ap (λ (j : ℕ). getD b j 0) s
 
-    pub labelled-at : labelledEntry (raw b .entries) e ≡ not (eqb (getD b (entryCells + (e - 1) * entrySize + 9) 0) 0)
+    pub labelled-at : labelledEntry (raw b .entries) e ≡ not (eqb (getD b (entryCells + (e - 1) * entrySize + entrySequenceAt) 0) 0)
     unfolding labelledEntry isLabelled numbers
     labelled-at =
         ap₂ (λ (c k : ℕ). has (recorders c) e && not (eqb k 0)) (raw-count b K) seq-at
-        ∙ ap (λ (t : Bool). t && not (eqb (getD b (entryCells + (e - 1) * entrySize + 9) 0) 0)) (has-recorders (entryCount b) e l u)
+        ∙ ap (λ (t : Bool). t && not (eqb (getD b (entryCells + (e - 1) * entrySize + entrySequenceAt) 0) 0)) (has-recorders (entryCount b) e l u)
 
   -- an entry number that is not used has no label
   pub unlabelled : (e : ℕ) → (1 ≤ e → entryCount b < e) → labelledEntry (raw b .entries) e ≡ false
@@ -97,18 +97,18 @@ module _ (b : List ℕ) (K : Held hallFields b) (l : List ℕ) (M : Labels (raw 
       low : x ≡ 0 → x < 1
       low e = omega arith
 
-  list-names : (o : ℕ) → o + 65 ≤ length b → bounded (byte 1 64) 64 .valid (part o 65 b) ≡ true
-      → listNames (raw b .entries) (bounded (byte 1 64) 64 .decode (part o 65 b)) ≡ all (messageMarked l false) (listAt b o)
+  list-names : (o : ℕ) → o + listSize maxOrder ≤ length b → bounded (byte 1 maxEntries) maxOrder .valid (part o (listSize maxOrder) b) ≡ true
+      → listNames (raw b .entries) (bounded (byte 1 maxEntries) maxOrder .decode (part o (listSize maxOrder) b)) ≡ all (messageMarked l false) (listAt b o)
   unfolding listNames
   list-names o h v =
-      ap (all (labelledEntry (raw b .entries))) (decode-list 1 64 64 o b h (valid-list-count 1 64 64 o b h v))
+      ap (all (labelledEntry (raw b .entries))) (decode-list 1 maxEntries maxOrder o b h (valid-list-count 1 maxEntries maxOrder o b h v))
       ∙ all-same _ _ (listAt b o) (λ x k. sym (names-entry x))
 
-  set-names : (o : ℕ) → o + 64 ≤ length b → setNames (raw b .entries) (flags 64 .decode (part o 64 b)) ≡ all (setOk l b o) (recorders 64)
-  unfolding setNames setOk maxEntries
+  set-names : (o : ℕ) → o + maxEntries ≤ length b → setNames (raw b .entries) (flags maxEntries .decode (part o maxEntries b)) ≡ all (setOk l b o) (recorders maxEntries)
+  unfolding setNames setOk
   set-names o h =
-      all-same _ _ (recorders 64)
-      (λ e k. let r = recorders-range 64 e k in ap₂ (λ (s t : Bool). not s || t) (flags-at 64 o b h e (r .0) (r .1)) (sym (M e)))
+      all-same _ _ (recorders maxEntries)
+      (λ e k. let r = recorders-range maxEntries e k in ap₂ (λ (s t : Bool). not s || t) (flags-at maxEntries o b h e (r .0) (r .1)) (sym (M e)))
 
   message-names : (q g x : ℕ) → messageNames (raw b) q g (messageOf x) ≡ messageMarked l (raw b .summaries .sent q g) x
   unfolding messageNames messageOf
@@ -218,15 +218,15 @@ module _ (b : List ℕ) (K : Held hallFields b) (l : List ℕ) (M : Labels (raw 
           some : sentAt b p i ≡ true → summaryNames (raw b .entries) (raw b .summaries .summary p (viewAt b i)) ≡ summaryOk l b (placeOff p i)
           some t =
               let r = place-room b K i k p lo hi in
-              ap (summaryNames (raw b .entries)) (summary-some b K i k p lo hi t ∙ summary-value (off + 69) b)
-              ∙ ap₂ _&&_ (set-names (off + 69) (omega arith)) (list-names (off + 69 + 64) (omega arith) (summary-list b K i k p lo hi t))
-              ∙ sym (ap (λ (u : Bool). not u || (all (setOk l b (off + 69)) (recorders 64) && all (messageMarked l false) (listAt b (off + 69 + 64)))) t)
+              ap (summaryNames (raw b .entries)) (summary-some b K i k p lo hi t ∙ summary-value (off + placeSummaryAt) b)
+              ∙ ap₂ _&&_ (set-names (off + placeSummaryAt) (omega arith)) (list-names (off + placeSummaryAt + summaryOrderAt) (omega arith) (summary-list b K i k p lo hi t))
+              ∙ sym (ap (λ (u : Bool). not u || (all (setOk l b (off + placeSummaryAt)) (recorders maxEntries) && all (messageMarked l false) (listAt b (off + placeSummaryAt + summaryOrderAt)))) t)
 
           nothing : sentAt b p i ≡ false → summaryNames (raw b .entries) (raw b .summaries .summary p (viewAt b i)) ≡ summaryOk l b (placeOff p i)
           nothing t =
               ap (summaryNames (raw b .entries)) (summary-none b K i k p lo hi t)
               ∙ none-names
-              ∙ sym (ap (λ (u : Bool). not u || (all (setOk l b (off + 69)) (recorders 64) && all (messageMarked l false) (listAt b (off + 69 + 64)))) t)
+              ∙ sym (ap (λ (u : Bool). not u || (all (setOk l b (off + placeSummaryAt)) (recorders maxEntries) && all (messageMarked l false) (listAt b (off + placeSummaryAt + summaryOrderAt)))) t)
 
       pub place-member : has (members (sizeAt b) (setAt b i)) p ≡ true
           → placeCross (raw b) (viewAt b i) p ≡ all (messageMarked l (sentAt b p i)) (listAt b (placeOff p i)) && summaryOk l b (placeOff p i)
@@ -259,7 +259,7 @@ module _ (b : List ℕ) (K : Held hallFields b) (l : List ℕ) (M : Labels (raw 
     abbrev cell : RecorderCell
     cell = recorderAt (raw b .service .current) (raw b .recorders) r
 
-    room : recordersAt + (r - 1) * recorderSize + 286 ≤ length b
+    room : recordersAt + (r - 1) * recorderSize + recorderSize ≤ length b
     room =
         let n = size-in b K .1 in
         omega (arith, long b K)
@@ -267,73 +267,73 @@ module _ (b : List ℕ) (K : Held hallFields b) (l : List ℕ) (M : Labels (raw 
     whole : recorderAt (raw b .service .current) (raw b .recorders) r ≡ recorderForm .decode (part (recordersAt + (r - 1) * recorderSize) recorderSize b)
     whole = sym (raw-recorder b K r lo hi)
 
-    pub current-at : raw b .service .current r ≡ value (part (recordersAt + (r - 1) * recorderSize) 4 b)
+    pub current-at : raw b .service .current r ≡ value (part (recordersAt + (r - 1) * recorderSize) numberSize b)
     unfolding recorderAt
     current-at = ap (λ (x : RecorderCell). x .current) (whole ∙ recorder-value off b) ∙ viewNumber-value off b
 
-    known-names : setNames (raw b .entries) (raw b .recorders .known r) ≡ all (setOk l b (off + 142)) (recorders 64)
+    known-names : setNames (raw b .entries) (raw b .recorders .known r) ≡ all (setOk l b (off + recorderKnownAt)) (recorders maxEntries)
     unfolding recorderAt
     known-names =
         let h = room in
-        let e : off + 4 + 1 + 1 + 65 + 65 + 1 + 1 + 4 ≡ off + 142 = omega arith in
-        ap (setNames (raw b .entries)) (ap (λ (x : RecorderCell). x .known) (whole ∙ recorder-value off b) ∙ ap (λ (j : ℕ). flags 64 .decode (part j 64 b)) e)
-        ∙ set-names (off + 142) (omega arith)
+        let e : off + numberSize + 1 + 1 + listSize maxBuffer + listSize maxOrder + 1 + 1 + numberSize ≡ off + recorderKnownAt = omega arith in
+        ap (setNames (raw b .entries)) (ap (λ (x : RecorderCell). x .known) (whole ∙ recorder-value off b) ∙ ap (λ (j : ℕ). flags maxEntries .decode (part j maxEntries b)) e)
+        ∙ set-names (off + recorderKnownAt) (omega arith)
 
-    safe-names : setNames (raw b .entries) (raw b .recorders .safe r) ≡ all (setOk l b (off + 206)) (recorders 64)
+    safe-names : setNames (raw b .entries) (raw b .recorders .safe r) ≡ all (setOk l b (off + recorderSafeAt)) (recorders maxEntries)
     unfolding recorderAt
     safe-names =
         let h = room in
-        let e : off + 4 + 1 + 1 + 65 + 65 + 1 + 1 + 4 + 64 ≡ off + 206 = omega arith in
-        ap (setNames (raw b .entries)) (ap (λ (x : RecorderCell). x .safe) (whole ∙ recorder-value off b) ∙ ap (λ (j : ℕ). flags 64 .decode (part j 64 b)) e)
-        ∙ set-names (off + 206) (omega arith)
+        let e : off + numberSize + 1 + 1 + listSize maxBuffer + listSize maxOrder + 1 + 1 + numberSize + maxEntries ≡ off + recorderSafeAt = omega arith in
+        ap (setNames (raw b .entries)) (ap (λ (x : RecorderCell). x .safe) (whole ∙ recorder-value off b) ∙ ap (λ (j : ℕ). flags maxEntries .decode (part j maxEntries b)) e)
+        ∙ set-names (off + recorderSafeAt) (omega arith)
 
-    buffer-names : listNames (raw b .entries) (raw b .recorders .buffer r) ≡ all (messageMarked l false) (listAt b (off + 6))
+    buffer-names : listNames (raw b .entries) (raw b .recorders .buffer r) ≡ all (messageMarked l false) (listAt b (off + recorderBufferAt))
     unfolding recorderAt
     buffer-names =
         let h = room in
-        let e : off + 4 + 1 + 1 ≡ off + 6 = omega arith in
+        let e : off + numberSize + 1 + 1 ≡ off + recorderBufferAt = omega arith in
         ap (listNames (raw b .entries)) (ap (λ (x : RecorderCell). x .buffer) (whole ∙ recorder-value off b))
-        ∙ list-names (off + 4 + 1 + 1) (omega arith) (recorder-lists b K r lo hi .0)
+        ∙ list-names (off + numberSize + 1 + 1) (omega arith) (recorder-lists b K r lo hi .0)
         ∙ ap (λ (j : ℕ). all (messageMarked l false) (listAt b j)) e
 
-    order-names : listNames (raw b .entries) (raw b .recorders .order r) ≡ all (messageMarked l false) (listAt b (off + 71))
+    order-names : listNames (raw b .entries) (raw b .recorders .order r) ≡ all (messageMarked l false) (listAt b (off + recorderOrderAt))
     unfolding recorderAt
     order-names =
         let h = room in
-        let e : off + 4 + 1 + 1 + 65 ≡ off + 71 = omega arith in
+        let e : off + numberSize + 1 + 1 + listSize maxBuffer ≡ off + recorderOrderAt = omega arith in
         ap (listNames (raw b .entries)) (ap (λ (x : RecorderCell). x .order) (whole ∙ recorder-value off b))
-        ∙ list-names (off + 4 + 1 + 1 + 65) (omega arith) (recorder-lists b K r lo hi .1)
+        ∙ list-names (off + numberSize + 1 + 1 + listSize maxBuffer) (omega arith) (recorder-lists b K r lo hi .1)
         ∙ ap (λ (j : ℕ). all (messageMarked l false) (listAt b j)) e
 
-    heard-at : (q : ℕ) → 1 ≤ q → q ≤ 8 → raw b .recorders .heard r q ≡ flagAt b (off + 270) q
+    heard-at : (q : ℕ) → 1 ≤ q → q ≤ maxRecorders → raw b .recorders .heard r q ≡ flagAt b (off + recorderHeardAt) q
     unfolding recorderAt
     heard-at q ql qu =
         let h = room in
-        let e : off + 4 + 1 + 1 + 65 + 65 + 1 + 1 + 4 + 64 + 64 ≡ off + 270 = omega arith in
+        let e : off + numberSize + 1 + 1 + listSize maxBuffer + listSize maxOrder + 1 + 1 + numberSize + maxEntries + maxEntries ≡ off + recorderHeardAt = omega arith in
         ap (λ (x : RecorderCell). x .heard q) (whole ∙ recorder-value off b)
-        ∙ ap (λ (j : ℕ). flags 8 .decode (part j 8 b) q) e
-        ∙ flags-at 8 (off + 270) b (omega arith) q ql qu
+        ∙ ap (λ (j : ℕ). flags maxRecorders .decode (part j maxRecorders b) q) e
+        ∙ flags-at maxRecorders (off + recorderHeardAt) b (omega arith) q ql qu
 
-    sources-at : (q : ℕ) → 1 ≤ q → q ≤ 8 → raw b .recorders .safeSources r q ≡ flagAt b (off + 278) q
+    sources-at : (q : ℕ) → 1 ≤ q → q ≤ maxRecorders → raw b .recorders .safeSources r q ≡ flagAt b (off + recorderSafeSourcesAt) q
     unfolding recorderAt
     sources-at q ql qu =
         let h = room in
-        let e : off + 4 + 1 + 1 + 65 + 65 + 1 + 1 + 4 + 64 + 64 + 8 ≡ off + 278 = omega arith in
+        let e : off + numberSize + 1 + 1 + listSize maxBuffer + listSize maxOrder + 1 + 1 + numberSize + maxEntries + maxEntries + maxRecorders ≡ off + recorderSafeSourcesAt = omega arith in
         ap (λ (x : RecorderCell). x .safeSources q) (whole ∙ recorder-value off b)
-        ∙ ap (λ (j : ℕ). flags 8 .decode (part j 8 b) q) e
-        ∙ flags-at 8 (off + 278) b (omega arith) q ql qu
+        ∙ ap (λ (j : ℕ). flags maxRecorders .decode (part j maxRecorders b) q) e
+        ∙ flags-at maxRecorders (off + recorderSafeSourcesAt) b (omega arith) q ql qu
 
     -- where its current view stands at place i, or at none
-    module _ (i : ℕ) (f : Found (viewCount b) b (value (part (recordersAt + (r - 1) * recorderSize) 4 b)) i) where
+    module _ (i : ℕ) (f : Found (viewCount b) b (value (part (recordersAt + (r - 1) * recorderSize) numberSize b)) i) where
       abbrev set : ℕ
       set = setAt b i
 
       in-set : (q : ℕ) → has (raw b .service .members (raw b .service .current r)) q ≡ has (members (sizeAt b) (setAt b i)) q
       in-set q =
           ap (λ (g : ℕ). has (raw b .service .members g) q) current-at
-          ∙ found-members b K (value (part (recordersAt + (r - 1) * recorderSize) 4 b)) i f q
+          ∙ found-members b K (value (part (recordersAt + (r - 1) * recorderSize) numberSize b)) i f q
 
-      heard-sent : (q : ℕ) → 1 ≤ q → q ≤ 8
+      heard-sent : (q : ℕ) → 1 ≤ q → q ≤ maxRecorders
           → (has (raw b .service .members (raw b .service .current r)) q && raw b .summaries .sent q (raw b .service .current r))
           ≡ (has (members (sizeAt b) (setAt b i)) q && sentAt b q i)
       heard-sent q ql qu =
@@ -359,14 +359,14 @@ module _ (b : List ℕ) (K : Held hallFields b) (l : List ℕ) (M : Labels (raw 
               ∙ sym (ap (λ (u : Bool). u && sentAt b q i) t)
 
       pub recorder-cross : recorderCross (raw b) r
-          ≡ (eqb (value (part (recordersAt + (r - 1) * recorderSize) 4 b)) 0 || has (members (sizeAt b) (setAt b i)) r)
-          && (all (setOk l b (recordersAt + (r - 1) * recorderSize + 142)) (recorders 64)
-          && (all (messageMarked l false) (listAt b (recordersAt + (r - 1) * recorderSize + 6))
-          && (all (messageMarked l false) (listAt b (recordersAt + (r - 1) * recorderSize + 71))
-          && (all (setOk l b (recordersAt + (r - 1) * recorderSize + 206)) (recorders 64)
-          && (all (heardOk b (recordersAt + (r - 1) * recorderSize + 270) (sizeAt b) (setAt b i) i) (recorders 8)
-          && all (sourceOk b (recordersAt + (r - 1) * recorderSize + 278) (sizeAt b) (setAt b i)) (recorders 8))))))
-      unfolding recorderCross heardOk sourceOk maxRecorders
+          ≡ (eqb (value (part (recordersAt + (r - 1) * recorderSize) numberSize b)) 0 || has (members (sizeAt b) (setAt b i)) r)
+          && (all (setOk l b (recordersAt + (r - 1) * recorderSize + recorderKnownAt)) (recorders maxEntries)
+          && (all (messageMarked l false) (listAt b (recordersAt + (r - 1) * recorderSize + recorderBufferAt))
+          && (all (messageMarked l false) (listAt b (recordersAt + (r - 1) * recorderSize + recorderOrderAt))
+          && (all (setOk l b (recordersAt + (r - 1) * recorderSize + recorderSafeAt)) (recorders maxEntries)
+          && (all (heardOk b (recordersAt + (r - 1) * recorderSize + recorderHeardAt) (sizeAt b) (setAt b i) i) (recorders maxRecorders)
+          && all (sourceOk b (recordersAt + (r - 1) * recorderSize + recorderSafeSourcesAt) (sizeAt b) (setAt b i)) (recorders maxRecorders))))))
+      unfolding recorderCross heardOk sourceOk
       recorder-cross =
           ap₂ _&&_ (ap₂ (λ (g : ℕ) (t : Bool). eqb g 0 || t) current-at (in-set r))
           (ap₂ _&&_ known-names
@@ -374,8 +374,8 @@ module _ (b : List ℕ) (K : Held hallFields b) (l : List ℕ) (M : Labels (raw 
           (ap₂ _&&_ order-names
           (ap₂ _&&_ safe-names
           (ap₂ _&&_
-          (all-same _ _ (recorders 8) (λ q h. let w = recorders-range 8 q h in ap₂ (λ (s t : Bool). not s || t) (heard-at q (w .0) (w .1)) (heard-sent q (w .0) (w .1))))
-          (all-same _ _ (recorders 8) (λ q h. let w = recorders-range 8 q h in ap₂ (λ (s t : Bool). not s || t) (sources-at q (w .0) (w .1)) (in-set q))))))))
+          (all-same _ _ (recorders maxRecorders) (λ q h. let w = recorders-range maxRecorders q h in ap₂ (λ (s t : Bool). not s || t) (heard-at q (w .0) (w .1)) (heard-sent q (w .0) (w .1))))
+          (all-same _ _ (recorders maxRecorders) (λ q h. let w = recorders-range maxRecorders q h in ap₂ (λ (s t : Bool). not s || t) (sources-at q (w .0) (w .1)) (in-set q))))))))
 
 -- ## The whole
 

@@ -15,6 +15,7 @@ use Rattle.codec.specs.Number.{value, number, flag}
 use Rattle.codec.specs.Cells.{decodeAll, cells}
 use Rattle.codec.proofs.TableLaws.{by-cases, length-numbers}
 use Rattle.codec.specs.Table.{lookup, table, flags, numbers}
+use Rattle.model.specs.Hall.{maxEntries}
 use Rattle.validity.specs.Marks.{marked, messageMarked, flagAt}
 
 module _ (l : List ℕ) (x : ℕ) where
@@ -22,13 +23,13 @@ module _ (l : List ℕ) (x : ℕ) where
   unfolding marked
   marked-low h = rw (le-ltb 0 x (omega arith))
 
-  pub marked-high : 64 < x → marked l x ≡ false
+  pub marked-high : maxEntries < x → marked l x ≡ false
   unfolding marked
-  marked-high h = rw (lt-ltb 0 x (omega arith), lt-leb x 64 h)
+  marked-high h = rw (lt-ltb 0 x (omega arith), lt-leb x maxEntries h)
 
-  pub marked-in : 1 ≤ x → x ≤ 64 → marked l x ≡ not (eqb (getD l (x - 1) 0) 0)
+  pub marked-in : 1 ≤ x → x ≤ maxEntries → marked l x ≡ not (eqb (getD l (x - 1) 0) 0)
   unfolding marked
-  marked-in h k = rw (lt-ltb 0 x h, le-leb x 64 k)
+  marked-in h k = rw (lt-ltb 0 x h, le-leb x maxEntries k)
 
   pub message-summary : (s : Bool) → x ≡ 0 → messageMarked l s x ≡ s
   unfolding messageMarked

@@ -19,8 +19,8 @@ use Rattle.codec.proofs.TableLaws.{by-cases, Distinct}
 use Rattle.codec.specs.Table.{place, table, numbers}
 use Rattle.quorum.specs.Sets.{has, members, recorders, inMask}
 use Rattle.quorum.proofs.SetLaws.{has-head, has-later, has-filter}
-use Rattle.model.specs.Hall.{maxEntries, maxRecorders, Hall}
-use Rattle.store.specs.Layout.{storedLength, entryCells, entrySize}
+use Rattle.model.specs.Hall.{maxEntries, maxRecorders, Hall, maxViews}
+use Rattle.store.specs.Layout.{storedLength, entryCells, entrySize, numberSize, wordSize, viewSetAt, viewSize, payloadSize, entryPayloadAt, viewsAt, viewCells, entriesAt, viewsSize}
 use Rattle.store.specs.Valid.{InRange}
 use Rattle.store.specs.Cells.{blankEntry, entryAt}
 use Rattle.store.specs.CellForms.{entryForm}
@@ -40,7 +40,7 @@ use Rattle.validity.specs.Alls.{viewAt, Found}
 use Rattle.validity.proofs.Values.{byte-value, view-value}
 use Rattle.validity.specs.RawHall.{raw, sizeAt, viewCount, entryCount, setAt, Ranged}
 
-pub set-in : (b : List ℕ) (i : ℕ) → i < viewCount b → setAt b i ≡ getD b (2 + i * 5 + 4) 0
+pub set-in : (b : List ℕ) (i : ℕ) → i < viewCount b → setAt b i ≡ getD b (viewCells + i * viewSize + viewSetAt) 0
 unfolding setAt
 set-in b i h = rw (lt-ltb i (viewCount b) h, setAt)
 
@@ -48,15 +48,15 @@ pub set-out : (b : List ℕ) (i : ℕ) → viewCount b ≤ i → setAt b i ≡ 0
 unfolding setAt
 set-out b i h = rw (le-ltb i (viewCount b) h, setAt)
 
-nth-view : (m o i : ℕ) (b : List ℕ) → i < m → getD (viewNumbers m o b) i 0 ≡ value (part (o + i * 5) 4 b)
+nth-view : (m o i : ℕ) (b : List ℕ) → i < m → getD (viewNumbers m o b) i 0 ≡ value (part (o + i * viewSize) numberSize b)
 unfolding viewNumbers
 nth-view zero o i b h = absurd (not-suc-le-zero h)
 nth-view (suc m) o zero b h =
-    let e : o + 0 * 5 ≡ o = omega arith in
-    ap (λ (j : ℕ). value (part j 4 b)) (sym e)
+    let e : o + 0 * viewSize ≡ o = omega arith in
+    ap (λ (j : ℕ). value (part j numberSize b)) (sym e)
 nth-view (suc m) o (suc i) b h =
-    let e : o + 5 + i * 5 ≡ o + suc i * 5 = omega arith in
-    nth-view m (o + 5) i b (le-of-suc-le-suc h) ∙ ap (λ (j : ℕ). value (part j 4 b)) e
+    let e : o + viewSize + i * viewSize ≡ o + suc i * viewSize = omega arith in
+    nth-view m (o + viewSize) i b (le-of-suc-le-suc h) ∙ ap (λ (j : ℕ). value (part j numberSize b)) e
 
 has-nth : (xs : List ℕ) (i : ℕ) → i < length xs → has xs (getD xs i 0) ≡ true
 has-nth [] i h = absurd (not-suc-le-zero h)
@@ -88,10 +88,10 @@ module _ (b : List ℕ) (K : Held hallFields b) where
   pub in-range : InRange (raw b)
   in-range = fields-ok (raw b) .1 (value-ok hallFields hallFields-lawful b K)
 
-  pub size-in : (1 ≤ sizeAt b) × (sizeAt b ≤ 8)
-  size-in = byte-in 1 8 0 b (omega (arith, long)) (whole-parts b long (K .valid) .0)
+  pub size-in : (1 ≤ sizeAt b) × (sizeAt b ≤ maxRecorders)
+  size-in = byte-in 1 maxRecorders 0 b (omega (arith, long)) (whole-parts b long (K .valid) .0)
 
-  pub views-in : viewCount b ≤ 32
+  pub views-in : viewCount b ≤ maxViews
   views-in = views-count (sizeAt b) b (omega (arith, long)) (whole-parts b long (K .valid) .1)
 
   -- N, the count of entries and the numbers of the views
@@ -116,24 +116,23 @@ module _ (b : List ℕ) (K : Held hallFields b) where
   pub raw-count : raw b .entries .count ≡ entryCount b
   unfolding valueOf hallFields renamed mapped fields d afterSize bodyForm entriesForm
   raw-count =
-      let v = viewsForm d .decode (part 1 161 b) in
+      let v = viewsForm d .decode (part viewsAt viewsSize b) in
       ap (λ t. t .1 .1 .0 .0) (given-value (byte 1 maxRecorders) afterSize 0 b)
       ∙ ap (λ t. t .1 .0 .0) (given-value (viewsForm d) (bodyForm d) 1 b)
-      ∙ ap (λ t. t .0 .0) (given-value (entriesForm d) (λ a. pair (recordersForm d) (pair (networkForm d (v .0)) (queuesForm (v .0)))) 162 b)
-      ∙ ap (λ t. t .0) (given-value (byte 0 maxEntries) (λ m. table (entryForm d) (numbers 1 m) maxEntries blankEntry) 162 b)
-      ∙ byte-value 0 maxEntries 162 b (omega (arith, long))
+      ∙ ap (λ t. t .0 .0) (given-value (entriesForm d) (λ a. pair (recordersForm d) (pair (networkForm d (v .0)) (queuesForm (v .0)))) entriesAt b)
+      ∙ ap (λ t. t .0) (given-value (byte 0 maxEntries) (λ m. table (entryForm d) (numbers 1 m) maxEntries blankEntry) entriesAt b)
+      ∙ byte-value 0 maxEntries entriesAt b (omega (arith, long))
 
-  pub count-in : entryCount b ≤ 64
-  unfolding maxEntries
-  count-in = subst (λ (c : ℕ). c ≤ 64) raw-count (in-range .entries .atMost)
+  pub count-in : entryCount b ≤ maxEntries
+  count-in = subst (λ (c : ℕ). c ≤ maxEntries) raw-count (in-range .entries .atMost)
 
   -- entry e
   pub raw-entry : (e : ℕ) → 1 ≤ e → e ≤ entryCount b → entryAt (raw b .entries) e
       ≡ record {
         sender = getD b (entryCells + (e - 1) * entrySize) 0;
-        value = value (part (entryCells + (e - 1) * entrySize + 1) 4 b);
-        labelView = value (part (entryCells + (e - 1) * entrySize + 1 + 4) 4 b);
-        labelSeq = getD b (entryCells + (e - 1) * entrySize + 1 + 4 + 4) 0;
+        value = value (part (entryCells + (e - 1) * entrySize + entryPayloadAt) wordSize b);
+        labelView = value (part (entryCells + (e - 1) * entrySize + entryPayloadAt + payloadSize) numberSize b);
+        labelSeq = getD b (entryCells + (e - 1) * entrySize + entryPayloadAt + payloadSize + numberSize) 0;
       }
   raw-entry e l u =
       let n = sizeAt b in
@@ -160,15 +159,14 @@ module _ (b : List ℕ) (K : Held hallFields b) where
         ap (place (raw b .service .created)) (sym created-nth)
         ∙ place-nth (raw b .service .created) i (rising-distinct (raw b .service .created) (in-range .views .rises)) inside
 
-    pub view-members : raw b .service .members (viewAt b i) ≡ members (sizeAt b) (getD b (2 + i * 5 + 4) 0)
-    unfolding maxRecorders
+    pub view-members : raw b .service .members (viewAt b i) ≡ members (sizeAt b) (getD b (viewCells + i * viewSize + viewSetAt) 0)
     view-members =
         let n = sizeAt b in
         let c = views-in in
         let w = slice-value hallFields-lawful (view-lawful n (size-in .1)) b K (raw-size, inside) (view-view n (size-in .1) i) in
-        let o : 2 + i * 5 + 5 ≤ length b = omega (arith, long) in
+        let o : viewCells + i * viewSize + viewSize ≤ length b = omega (arith, long) in
         ap (raw b .service .members) (sym created-nth)
-        ∙ ap (λ (p : ℕ × List ℕ). p .1) (sym w ∙ view-value n (2 + i * 5) b o)
+        ∙ ap (λ (p : ℕ × List ℕ). p .1) (sym w ∙ view-value n (viewCells + i * viewSize) b o)
 
   -- the members of the view g, where g stands at place i or at none
   pub found-members : (g i : ℕ) → Found (viewCount b) b g i → (q : ℕ) → has (raw b .service .members g) q ≡ has (members (sizeAt b) (setAt b i)) q

@@ -6,11 +6,12 @@ use mathlib.Core.List.{List}
 use Rattle.codec.specs.Bytes.{part}
 use Rattle.codec.specs.Number.{value}
 use Rattle.quorum.specs.Sets.{has}
+use Rattle.store.specs.Layout.{numberSize, viewSize, viewCells}
 use Rattle.ranges.specs.TableParts.{viewNumbers}
 
 -- the number of the view at place i
 abbrev pub viewAt : List ℕ → ℕ → ℕ
-viewAt b i = value (part (2 + i * 5) 4 b)
+viewAt b i = value (part (viewCells + i * viewSize) numberSize b)
 
 -- a loop over the views
 module _ (m : ℕ) (b : List ℕ) where

@@ -8,10 +8,11 @@ use lib.ListN.{getD}
 use Rattle.codec.specs.ByteList.{listAt}
 use Rattle.quorum.specs.Sets.{has, recorders, members}
 use Rattle.model.specs.Base.{all}
-use Rattle.model.specs.Hall.{Entries, Hall}
+use Rattle.model.specs.Hall.{Entries, Hall, maxEntries}
 use Rattle.model.specs.Ordering.{isLabelled}
 use Rattle.store.specs.Valid.{labelledEntry, queueNames, placeCross}
 use Rattle.store.specs.Cells.{EntryCell}
+use Rattle.store.specs.Layout.{summaryOrderAt, placeSentAt, placeSummaryAt}
 use Rattle.validity.specs.Marks.{marked, messageMarked, sentAt, setOk}
 use Rattle.validity.specs.RawHall.{sizeAt, setAt}
 
@@ -25,7 +26,7 @@ queuedOk l b i o = has (members (sizeAt b) (setAt b i)) (getD b o 0) && messageM
 
 -- the summary of the place at offset o, if it was sent
 unfoldable pub summaryOk : List ℕ → List ℕ → ℕ → Bool
-summaryOk l b o = not (eqb 1 (getD b (o + 68) 0)) || (all (setOk l b (o + 69)) (recorders 64) && all (messageMarked l false) (listAt b (o + 69 + 64)))
+summaryOk l b o = not (eqb 1 (getD b (o + placeSentAt) 0)) || (all (setOk l b (o + placeSummaryAt)) (recorders maxEntries) && all (messageMarked l false) (listAt b (o + placeSummaryAt + summaryOrderAt)))
 
 -- ## Entries
 

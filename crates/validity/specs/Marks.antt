@@ -5,11 +5,12 @@ use mathlib.Core.List.{List}
 use lib.Dec.{eqb, leb, ltb}
 use lib.ListN.{getD}
 use Rattle.quorum.specs.Sets.{has, members}
-use Rattle.store.specs.Layout.{networkAt, placeSize, rowSize}
+use Rattle.model.specs.Hall.{maxEntries}
+use Rattle.store.specs.Layout.{networkAt, placeSize, rowSize, placeSentAt}
 
 -- is entry x labelled, by the list l of label sequence numbers, 0 for none?
 unfoldable pub marked : List ℕ → ℕ → Bool
-marked l x = (ltb 0 x && leb x 64) && not (eqb (getD l (x - 1) 0) 0)
+marked l x = (ltb 0 x && leb x maxEntries) && not (eqb (getD l (x - 1) 0) 0)
 
 -- the same of a message, 0 for the summary, which may be sent
 unfoldable pub messageMarked : List ℕ → Bool → ℕ → Bool
@@ -24,7 +25,7 @@ abbrev pub placeOff : ℕ → ℕ → ℕ
 placeOff p i = networkAt + (p - 1) * rowSize + i * placeSize
 
 abbrev pub sentAt : List ℕ → ℕ → ℕ → Bool
-sentAt b p i = eqb 1 (getD b (placeOff p i + 68) 0)
+sentAt b p i = eqb 1 (getD b (placeOff p i + placeSentAt) 0)
 
 -- an entry of a set is labelled
 unfoldable pub setOk : List ℕ → List ℕ → ℕ → ℕ → Bool

@@ -6,8 +6,8 @@ use mathlib.Core.List.{List}
 use lib.Dec.{ltb}
 use lib.ListN.{length, getD}
 use Rattle.codec.specs.Slice.{Held, valueOf}
-use Rattle.model.specs.Hall.{Hall}
-use Rattle.store.specs.Layout.{storedLength}
+use Rattle.model.specs.Hall.{Hall, maxEntries, maxViews, maxRecorders}
+use Rattle.store.specs.Layout.{storedLength, viewSetAt, viewSize, viewsAt, viewCells, entriesAt}
 use Rattle.store.specs.Valid.{InRange}
 use Rattle.store.specs.HallForm.{hallFields}
 
@@ -20,19 +20,19 @@ abbrev pub sizeAt : List ℕ → ℕ
 sizeAt b = getD b 0 0
 
 abbrev pub viewCount : List ℕ → ℕ
-viewCount b = getD b 1 0
+viewCount b = getD b viewsAt 0
 
 abbrev pub entryCount : List ℕ → ℕ
-entryCount b = getD b 162 0
+entryCount b = getD b entriesAt 0
 
 -- the set of the view at place i, none past the last
 unfoldable pub setAt : List ℕ → ℕ → ℕ
-setAt b i = elim (ltb i (viewCount b)) [ true ↦ getD b (2 + i * 5 + 4) 0 | false ↦ 0 ]
+setAt b i = elim (ltb i (viewCount b)) [ true ↦ getD b (viewCells + i * viewSize + viewSetAt) 0 | false ↦ 0 ]
 
 -- bytes in range, with what the code's bounds go by
 pub record Ranged (b : List ℕ) : Type 0 where
   pub held : Held hallFields b
   pub fits : storedLength ≤ length b
-  pub size : getD b 0 0 ≤ 8
-  pub views : getD b 1 0 ≤ 32
-  pub entries : getD b 162 0 ≤ 64
+  pub size : getD b 0 0 ≤ maxRecorders
+  pub views : getD b viewsAt 0 ≤ maxViews
+  pub entries : getD b entriesAt 0 ≤ maxEntries

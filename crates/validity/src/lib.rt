@@ -8,13 +8,20 @@ ghost use Rattle.codec.specs.Bytes.{part};
 ghost use Rattle.codec.specs.ByteList.{listAt};
 ghost use Rattle.quorum.specs.Sets.{has, members, recorders};
 ghost use Rattle.model.specs.Base.{all};
+ghost use Rattle.model.specs.Hall.{maxEntries, maxViews, maxRecorders};
 ghost use Rattle.store.specs.Valid.{labelsApart, queueNames, recorderCross, placeCross, crossRules};
 ghost use Rattle.store.specs.StoredForm.{isStored};
+ghost use Rattle.store.specs.Layout.{queuedSize, viewsAt, viewCells, entriesAt, storedLength};
 ghost use Rattle.ranges.specs.TableParts.{viewNumbers};
 ghost use Rattle.validity.specs.Alls.{viewAt, Found};
 ghost use Rattle.validity.specs.Marks.{marked, messageMarked, sentAt, setOk, sourceOk, heardOk};
 ghost use Rattle.validity.specs.RawHall.{Ranged, raw, sizeAt, viewCount, entryCount, setAt};
 ghost use Rattle.validity.specs.CrossParts.{Labels, queuedOk, summaryOk, apart, viewCross};
+use model::limits;
+use store::layout;
+
+// How many entries there may be, as a byte.
+const ENTRIES: u8 = limits::MAX_ENTRIES as u8;
 
 // Do both hold?
 fn both(a: bool, b: bool) -> bool
@@ -24,27 +31,27 @@ fn both(a: bool, b: bool) -> bool
 }
 
 // Is entry x labelled? `labels` has the sequence number of each entry's label, 0 for none.
-fn is_marked(labels: &[u8; 64], x: u8) -> bool
+fn is_marked(labels: &[u8; limits::MAX_ENTRIES], x: u8) -> bool
     ensures { λ r. ⌜ r ≡ marked (now (labels .entry)) x ⌝ }
 {
     if x < 1 {
         return false;
     }
-    if 64 < x {
+    if ENTRIES < x {
         return false;
     }
     labels[(x - 1) as usize] != 0
 }
 
 // Is a message a labelled entry, or the summary of a source that sent it?
-fn names_message(labels: &[u8; 64], sent: bool, x: u8) -> bool
+fn names_message(labels: &[u8; limits::MAX_ENTRIES], sent: bool, x: u8) -> bool
     ensures { λ r. ⌜ r ≡ messageMarked (now (labels .entry)) sent x ⌝ }
 {
     if x == 0 { sent } else { is_marked(labels, x) }
 }
 
 // Does each byte of a list name a labelled entry, or a summary that was sent?
-fn names_all(b: &[u8], at: usize, labels: &[u8; 64], sent: bool) -> bool
+fn names_all(b: &[u8], at: usize, labels: &[u8; limits::MAX_ENTRIES], sent: bool) -> bool
     requires { ⌜ at + 256 ≤ length (now b) ⌝ }
     ensures { λ r. ⌜ r ≡ all (messageMarked (now (labels .entry)) sent) (listAt (now (b .entry)) at) ⌝ }
 {
@@ -61,8 +68,8 @@ fn names_all(b: &[u8], at: usize, labels: &[u8; 64], sent: bool) -> bool
 }
 
 // If entry e is in the set of flags at an offset, is it labelled?
-fn in_set(b: &[u8], at: usize, labels: &[u8; 64], e: usize) -> bool
-    requires { ⌜ (1 ≤ e) × (e ≤ 64) × (at + 64 ≤ length (now b)) ⌝ }
+fn in_set(b: &[u8], at: usize, labels: &[u8; limits::MAX_ENTRIES], e: usize) -> bool
+    requires { ⌜ (1 ≤ e) × (e ≤ maxEntries) × (at + maxEntries ≤ length (now b)) ⌝ }
     ensures { λ r. ⌜ r ≡ setOk (now (labels .entry)) (now (b .entry)) at e ⌝ }
 {
     if 1 == b[at + (e - 1)] {
@@ -73,12 +80,12 @@ fn in_set(b: &[u8], at: usize, labels: &[u8; 64], e: usize) -> bool
 }
 
 // Are the entries of the set of flags at an offset labelled?
-fn names_set(b: &[u8], at: usize, labels: &[u8; 64]) -> bool
-    requires { ⌜ at + 64 ≤ length (now b) ⌝ }
-    ensures { λ r. ⌜ r ≡ all (setOk (now (labels .entry)) (now (b .entry)) at) (recorders 64) ⌝ }
+fn names_set(b: &[u8], at: usize, labels: &[u8; limits::MAX_ENTRIES]) -> bool
+    requires { ⌜ at + maxEntries ≤ length (now b) ⌝ }
+    ensures { λ r. ⌜ r ≡ all (setOk (now (labels .entry)) (now (b .entry)) at) (recorders maxEntries) ⌝ }
 {
     let mut j = 0;
-    while j < 64 {
+    while j < limits::MAX_ENTRIES {
         if !in_set(b, at, labels, j + 1) {
             return false;
         }
@@ -89,7 +96,7 @@ fn names_set(b: &[u8], at: usize, labels: &[u8; 64]) -> bool
 
 // Is k, of recorders 1 to n, in a set?
 fn is_member(n: u8, set: u8, k: usize) -> bool
-    requires { ⌜ n ≤ 8 ⌝ }
+    requires { ⌜ n ≤ maxRecorders ⌝ }
     ensures { λ r. ⌜ r ≡ has (members n set) k ⌝ }
 {
     if k < 1 {
@@ -105,15 +112,15 @@ fn is_member(n: u8, set: u8, k: usize) -> bool
 
 // Did recorder p send its summary in the view at place i?
 fn is_sent(b: &[u8], p: usize, i: usize) -> bool
-    requires { ⌜ (1 ≤ p) × (p ≤ 8) × (i ≤ 32) × (59699 ≤ length (now b)) ⌝ }
+    requires { ⌜ (1 ≤ p) × (p ≤ maxRecorders) × (i ≤ maxViews) × (storedLength ≤ length (now b)) ⌝ }
     ensures { λ r. ⌜ r ≡ sentAt (now (b .entry)) p i ⌝ }
 {
-    1 == b[3091 + (p - 1) * 6496 + i * 203 + 68]
+    1 == b[layout::NETWORK + (p - 1) * layout::ROW + i * layout::PLACE + layout::PLACE_SENT]
 }
 
 // If source q is heard, is it a member and was its summary sent?
 fn heard_one(b: &[u8], at: usize, set: u8, i: usize, q: usize) -> bool
-    requires { ⌜ (1 ≤ q) × (q ≤ 8) × (i ≤ 32) × (at + 8 ≤ length (now b)) × (59699 ≤ length (now b)) × (getD (now b) 0 0 ≤ 8) ⌝ }
+    requires { ⌜ (1 ≤ q) × (q ≤ maxRecorders) × (i ≤ maxViews) × (at + maxRecorders ≤ length (now b)) × (storedLength ≤ length (now b)) × (getD (now b) 0 0 ≤ maxRecorders) ⌝ }
     ensures { λ r. ⌜ r ≡ heardOk (now (b .entry)) at (getD (now (b .entry)) 0 0) set i q ⌝ }
 {
     if 1 == b[at + (q - 1)] {
@@ -125,11 +132,11 @@ fn heard_one(b: &[u8], at: usize, set: u8, i: usize, q: usize) -> bool
 
 // "A source is marked heard only if its summary in the hearer's current view was sent."
 fn heard_all(b: &[u8], at: usize, set: u8, i: usize) -> bool
-    requires { ⌜ (i ≤ 32) × (at + 8 ≤ length (now b)) × (59699 ≤ length (now b)) × (getD (now b) 0 0 ≤ 8) ⌝ }
-    ensures { λ r. ⌜ r ≡ all (heardOk (now (b .entry)) at (getD (now (b .entry)) 0 0) set i) (recorders 8) ⌝ }
+    requires { ⌜ (i ≤ maxViews) × (at + maxRecorders ≤ length (now b)) × (storedLength ≤ length (now b)) × (getD (now b) 0 0 ≤ maxRecorders) ⌝ }
+    ensures { λ r. ⌜ r ≡ all (heardOk (now (b .entry)) at (getD (now (b .entry)) 0 0) set i) (recorders maxRecorders) ⌝ }
 {
     let mut j = 0;
-    while j < 8 {
+    while j < limits::MAX_RECORDERS {
         if !heard_one(b, at, set, i, j + 1) {
             return false;
         }
@@ -140,7 +147,7 @@ fn heard_all(b: &[u8], at: usize, set: u8, i: usize) -> bool
 
 // If source q is safe, is it a member?
 fn source_one(b: &[u8], at: usize, set: u8, q: usize) -> bool
-    requires { ⌜ (1 ≤ q) × (q ≤ 8) × (at + 8 ≤ length (now b)) × (getD (now b) 0 0 ≤ 8) ⌝ }
+    requires { ⌜ (1 ≤ q) × (q ≤ maxRecorders) × (at + maxRecorders ≤ length (now b)) × (getD (now b) 0 0 ≤ maxRecorders) ⌝ }
     ensures { λ r. ⌜ r ≡ sourceOk (now (b .entry)) at (getD (now (b .entry)) 0 0) set q ⌝ }
 {
     if 1 == b[at + (q - 1)] {
@@ -152,11 +159,11 @@ fn source_one(b: &[u8], at: usize, set: u8, q: usize) -> bool
 
 // "Sources heard or safe are those of members of the view."
 fn source_all(b: &[u8], at: usize, set: u8) -> bool
-    requires { ⌜ (at + 8 ≤ length (now b)) × (getD (now b) 0 0 ≤ 8) ⌝ }
-    ensures { λ r. ⌜ r ≡ all (sourceOk (now (b .entry)) at (getD (now (b .entry)) 0 0) set) (recorders 8) ⌝ }
+    requires { ⌜ (at + maxRecorders ≤ length (now b)) × (getD (now b) 0 0 ≤ maxRecorders) ⌝ }
+    ensures { λ r. ⌜ r ≡ all (sourceOk (now (b .entry)) at (getD (now (b .entry)) 0 0) set) (recorders maxRecorders) ⌝ }
 {
     let mut j = 0;
-    while j < 8 {
+    while j < limits::MAX_RECORDERS {
         if !source_one(b, at, set, j + 1) {
             return false;
         }
@@ -167,12 +174,12 @@ fn source_all(b: &[u8], at: usize, set: u8) -> bool
 
 // The place of view g among the m formed views, m if it is not formed.
 fn find_view(b: &[u8], m: usize, g: u32) -> usize
-    requires { ⌜ (m ≤ 32) × (162 ≤ length (now b)) ⌝ }
+    requires { ⌜ (m ≤ maxViews) × (entriesAt ≤ length (now b)) ⌝ }
     ensures { λ r. ⌜ Found m (now (b .entry)) g r ⌝ }
 {
     let mut i = 0;
     while i < m {
-        if codec::get_u32(b, 2 + i * 5) == g {
+        if codec::get_u32(b, layout::VIEWS + i * layout::VIEW) == g {
             return i;
         }
         i += 1;
@@ -182,23 +189,27 @@ fn find_view(b: &[u8], m: usize, g: u32) -> usize
 
 // The set of the view at a place, none past the last.
 fn view_set(b: &[u8], i: usize) -> u8
-    requires { ⌜ (i ≤ 32) × (getD (now b) 1 0 ≤ 32) × (162 ≤ length (now b)) ⌝ }
+    requires { ⌜ (i ≤ maxViews) × (getD (now b) viewsAt 0 ≤ maxViews) × (entriesAt ≤ length (now b)) ⌝ }
     ensures { λ r. ⌜ r ≡ setAt (now (b .entry)) i ⌝ }
 {
-    let m = b[1] as usize;
-    if i < m { b[2 + i * 5 + 4] } else { 0 }
+    let m = b[layout::VIEW_COUNT] as usize;
+    if i < m {
+        b[layout::VIEWS + i * layout::VIEW + layout::VIEW_SET]
+    } else {
+        0
+    }
 }
 
 // The sequence number of each entry's label, 0 for none.
-fn labels_of(b: &[u8]) -> [u8; 64]
+fn labels_of(b: &[u8]) -> [u8; limits::MAX_ENTRIES]
     requires { ⌜ Ranged (now b) ⌝ }
     ensures { λ r. ⌜ Labels (raw (now (b .entry)) .entries) r ⌝ }
 {
-    let m = b[162] as usize;
-    let mut labels = [0u8; 64];
+    let m = b[layout::ENTRY_COUNT] as usize;
+    let mut labels = [0u8; limits::MAX_ENTRIES];
     let mut i = 0;
     while i < m {
-        labels[i] = b[163 + i * 10 + 9];
+        labels[i] = b[layout::ENTRIES + i * layout::ENTRY + layout::ENTRY_SEQUENCE];
         i += 1;
     }
     labels
@@ -209,17 +220,20 @@ fn label_apart(b: &[u8], d: usize, e: usize) -> bool
     requires { ⌜ Ranged (now b) × ((1 ≤ d) × (d ≤ entryCount (now b)) × (1 ≤ e) × (e ≤ entryCount (now b))) ⌝ }
     ensures { λ r. ⌜ r ≡ apart (raw (now (b .entry)) .entries) d e ⌝ }
 {
-    let x = 163 + (d - 1) * 10;
-    let y = 163 + (e - 1) * 10;
+    let x = layout::ENTRIES + (d - 1) * layout::ENTRY;
+    let y = layout::ENTRIES + (e - 1) * layout::ENTRY;
     if d == e {
         return true;
     }
-    if b[x + 9] == 0 {
+    if b[x + layout::ENTRY_SEQUENCE] == 0 {
         return true;
     }
-    let seq_sender = both(b[x + 9] == b[y + 9], b[x] == b[y]);
+    let seq_sender = both(
+        b[x + layout::ENTRY_SEQUENCE] == b[y + layout::ENTRY_SEQUENCE],
+        b[x] == b[y],
+    );
     !both(
-        codec::get_u32(b, x + 5) == codec::get_u32(b, y + 5),
+        codec::get_u32(b, x + layout::ENTRY_LABEL) == codec::get_u32(b, y + layout::ENTRY_LABEL),
         seq_sender,
     )
 }
@@ -255,28 +269,32 @@ fn labels_alone(b: &[u8], m: usize) -> bool
 }
 
 // Is the queued message at an offset a member's, and does it name a labelled entry or a sent summary?
-fn names_queued(b: &[u8], i: usize, at: usize, labels: &[u8; 64]) -> bool
-    requires { ⌜ Ranged (now b) × ((i < viewCount (now b)) × (at + 2 ≤ length (now b))) ⌝ }
+fn names_queued(b: &[u8], i: usize, at: usize, labels: &[u8; limits::MAX_ENTRIES]) -> bool
+    requires { ⌜ Ranged (now b) × ((i < viewCount (now b)) × (at + queuedSize ≤ length (now b))) ⌝ }
     ensures { λ r. ⌜ r ≡ queuedOk (now (labels .entry)) (now (b .entry)) i at ⌝ }
 {
     let source = b[at] as usize;
     if is_member(b[0], view_set(b, i), source) {
-        names_message(labels, is_sent(b, source, i), b[at + 1])
+        names_message(
+            labels,
+            is_sent(b, source, i),
+            b[at + layout::QUEUED_MESSAGE],
+        )
     } else {
         false
     }
 }
 
 // Are the queued messages of the view at place i those of members, and do they name labelled entries and sent summaries?
-fn names_queue(b: &[u8], i: usize, labels: &[u8; 64]) -> bool
+fn names_queue(b: &[u8], i: usize, labels: &[u8; limits::MAX_ENTRIES]) -> bool
     requires { ⌜ Ranged (now b) × ((i < viewCount (now b)) × Labels (raw (now b) .entries) (now labels)) ⌝ }
     ensures { λ r. ⌜ r ≡ queueNames (raw (now (b .entry))) (viewAt (now (b .entry)) i) (raw (now (b .entry)) .service .queue (viewAt (now (b .entry)) i)) ⌝ }
 {
-    let at = 55059 + i * 145;
+    let at = layout::QUEUES + i * layout::QUEUE;
     let count = b[at] as usize;
     let mut j = 0;
     while j < count {
-        if !names_queued(b, i, at + 1 + j * 2, labels) {
+        if !names_queued(b, i, at + 1 + j * layout::QUEUED, labels) {
             return false;
         }
         j += 1;
@@ -285,15 +303,15 @@ fn names_queue(b: &[u8], i: usize, labels: &[u8; 64]) -> bool
 }
 
 // Does the summary of the place at an offset, if it was sent, name labelled entries?
-fn names_summary(b: &[u8], at: usize, labels: &[u8; 64]) -> bool
+fn names_summary(b: &[u8], at: usize, labels: &[u8; limits::MAX_ENTRIES]) -> bool
     requires { ⌜ at + 512 ≤ length (now b) ⌝ }
     ensures { λ r. ⌜ r ≡ summaryOk (now (labels .entry)) (now (b .entry)) at ⌝ }
 {
-    if 1 == b[at + 68] {
-        let known = at + 69;
+    if 1 == b[at + layout::PLACE_SENT] {
+        let known = at + layout::PLACE_SUMMARY;
         both(
             names_set(b, known, labels),
-            names_all(b, known + 64, labels, false),
+            names_all(b, known + layout::SUMMARY_ORDER, labels, false),
         )
     } else {
         true
@@ -301,11 +319,11 @@ fn names_summary(b: &[u8], at: usize, labels: &[u8; 64]) -> bool
 }
 
 // "Pending and queued messages, summaries .. are those of members of the view": recorder p in the view at place i.
-fn place_cross(b: &[u8], i: usize, labels: &[u8; 64], p: usize) -> bool
+fn place_cross(b: &[u8], i: usize, labels: &[u8; limits::MAX_ENTRIES], p: usize) -> bool
     requires { ⌜ Ranged (now b) × ((i < viewCount (now b)) × Labels (raw (now b) .entries) (now labels) × (1 ≤ p) × (p ≤ sizeAt (now b))) ⌝ }
     ensures { λ r. ⌜ r ≡ placeCross (raw (now (b .entry))) (viewAt (now (b .entry)) i) p ⌝ }
 {
-    let at = 3091 + (p - 1) * 6496 + i * 203;
+    let at = layout::NETWORK + (p - 1) * layout::ROW + i * layout::PLACE;
     let sent = is_sent(b, p, i);
     if is_member(b[0], view_set(b, i), p) {
         both(names_all(b, at, labels, sent), names_summary(b, at, labels))
@@ -315,7 +333,7 @@ fn place_cross(b: &[u8], i: usize, labels: &[u8; 64], p: usize) -> bool
 }
 
 // The same for recorders 1 to n.
-fn places_cross(b: &[u8], i: usize, labels: &[u8; 64], n: usize) -> bool
+fn places_cross(b: &[u8], i: usize, labels: &[u8; limits::MAX_ENTRIES], n: usize) -> bool
     requires { ⌜ Ranged (now b) × ((i < viewCount (now b)) × Labels (raw (now b) .entries) (now labels) × (n ≡ sizeAt (now b))) ⌝ }
     ensures { λ r. ⌜ r ≡ all (placeCross (raw (now (b .entry))) (viewAt (now (b .entry)) i)) (recorders n) ⌝ }
 {
@@ -330,7 +348,7 @@ fn places_cross(b: &[u8], i: usize, labels: &[u8; 64], n: usize) -> bool
 }
 
 // The rules of the view at place i.
-fn view_cross(b: &[u8], labels: &[u8; 64], i: usize) -> bool
+fn view_cross(b: &[u8], labels: &[u8; limits::MAX_ENTRIES], i: usize) -> bool
     requires { ⌜ Ranged (now b) × ((i < viewCount (now b)) × Labels (raw (now b) .entries) (now labels)) ⌝ }
     ensures { λ r. ⌜ r ≡ viewCross (raw (now (b .entry))) (viewAt (now (b .entry)) i) ⌝ }
 {
@@ -339,9 +357,9 @@ fn view_cross(b: &[u8], labels: &[u8; 64], i: usize) -> bool
 }
 
 // The rules of the m views.
-fn views_cross(b: &[u8], labels: &[u8; 64], m: usize) -> bool
+fn views_cross(b: &[u8], labels: &[u8; limits::MAX_ENTRIES], m: usize) -> bool
     requires { ⌜ Ranged (now b) × ((m ≡ viewCount (now b)) × Labels (raw (now b) .entries) (now labels)) ⌝ }
-    ensures { λ r. ⌜ r ≡ all (viewCross (raw (now (b .entry)))) (viewNumbers m 2 (now (b .entry))) ⌝ }
+    ensures { λ r. ⌜ r ≡ all (viewCross (raw (now (b .entry)))) (viewNumbers m viewCells (now (b .entry))) ⌝ }
 {
     let mut i = 0;
     while i < m {
@@ -355,32 +373,41 @@ fn views_cross(b: &[u8], labels: &[u8; 64], m: usize) -> bool
 
 // "Current view (0, or a formed view that has it)."
 fn in_view(n: u8, set: u8, g: u32, r: usize) -> bool
-    requires { ⌜ n ≤ 8 ⌝ }
+    requires { ⌜ n ≤ maxRecorders ⌝ }
     ensures { λ t. ⌜ t ≡ (eqb g 0 || has (members n set) r) ⌝ }
 {
     if g == 0 { true } else { is_member(n, set, r) }
 }
 
 // "Every list or set names only labelled entries", and heard and safe sources: recorder r.
-fn recorder_cross(b: &[u8], labels: &[u8; 64], r: usize) -> bool
+fn recorder_cross(b: &[u8], labels: &[u8; limits::MAX_ENTRIES], r: usize) -> bool
     requires { ⌜ Ranged (now b) × (Labels (raw (now b) .entries) (now labels) × (1 ≤ r) × (r ≤ sizeAt (now b))) ⌝ }
     ensures { λ t. ⌜ t ≡ recorderCross (raw (now (b .entry))) r ⌝ }
 {
-    let at = 803 + (r - 1) * 286;
+    let at = layout::RECORDERS + (r - 1) * layout::RECORDER;
     let g = codec::get_u32(b, at);
-    let i = find_view(b, b[1] as usize, g);
+    let i = find_view(b, b[layout::VIEW_COUNT] as usize, g);
     let set = view_set(b, i);
     let current = in_view(b[0], set, g, r);
-    let known = names_set(b, at + 142, labels);
-    let sources = both(heard_all(b, at + 270, set, i), source_all(b, at + 278, set));
-    let sets = both(names_set(b, at + 206, labels), sources);
-    let order = both(names_all(b, at + 71, labels, false), sets);
-    let lists = both(names_all(b, at + 6, labels, false), order);
+    let known = names_set(b, at + layout::RECORDER_KNOWN, labels);
+    let sources = both(
+        heard_all(b, at + layout::RECORDER_HEARD, set, i),
+        source_all(b, at + layout::RECORDER_SAFE_SOURCES, set),
+    );
+    let sets = both(names_set(b, at + layout::RECORDER_SAFE, labels), sources);
+    let order = both(
+        names_all(b, at + layout::RECORDER_ORDER, labels, false),
+        sets,
+    );
+    let lists = both(
+        names_all(b, at + layout::RECORDER_BUFFER, labels, false),
+        order,
+    );
     both(current, both(known, lists))
 }
 
 // The same for recorders 1 to n.
-fn recorders_cross(b: &[u8], labels: &[u8; 64], n: usize) -> bool
+fn recorders_cross(b: &[u8], labels: &[u8; limits::MAX_ENTRIES], n: usize) -> bool
     requires { ⌜ Ranged (now b) × (Labels (raw (now b) .entries) (now labels) × (n ≡ sizeAt (now b))) ⌝ }
     ensures { λ t. ⌜ t ≡ all (recorderCross (raw (now (b .entry)))) (recorders n) ⌝ }
 {
@@ -401,8 +428,8 @@ fn cross_rules(b: &[u8]) -> bool
 {
     let labels = labels_of(b);
     let n = b[0] as usize;
-    let m = b[1] as usize;
-    let count = b[162] as usize;
+    let m = b[layout::VIEW_COUNT] as usize;
+    let count = b[layout::ENTRY_COUNT] as usize;
     both(
         labels_alone(b, count),
         both(recorders_cross(b, &labels, n), views_cross(b, &labels, m)),
@@ -413,7 +440,7 @@ fn cross_rules(b: &[u8]) -> bool
 pub fn is_hall(b: &[u8]) -> bool
     ensures { λ r. ⌜ r ≡ isStored (now (b .entry)) ⌝ }
 {
-    if b.len() < 59699 {
+    if b.len() < layout::LENGTH {
         return false;
     }
     if ranges::in_range(b) {

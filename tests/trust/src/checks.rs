@@ -3,6 +3,7 @@
 use crate::antt::Declaration;
 use crate::closure::{is_proof, Closure, Crates};
 use crate::code::Function;
+use crate::layout::Layout;
 use crate::page::{self, Listed, Page, Theorem};
 use crate::tree::{Place, Source, Tree};
 use std::collections::BTreeSet;
@@ -87,6 +88,10 @@ impl Trust {
         }
         report.test("the list of files".to_string(), self.list_faults());
         report.test("the other files of specs/".to_string(), self.other_faults());
+        report.test(
+            "the numbers of the layout".to_string(),
+            self.layout_faults(),
+        );
         report
     }
 
@@ -272,6 +277,12 @@ impl Trust {
             Err(why) => Some(why),
         };
         self.other_specs().iter().filter_map(faults).collect()
+    }
+
+    /// The numbers of the stored form stand in no other file as literals.
+    fn layout_faults(&self) -> Vec<String> {
+        let files = self.tree.files();
+        Layout::of(&files).faults(&files)
     }
 
     /// The page's list of files is the closure's.

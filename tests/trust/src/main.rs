@@ -14,6 +14,7 @@ mod checks;
 mod closure;
 mod code;
 mod edits;
+mod layout;
 mod names;
 mod page;
 mod planted;

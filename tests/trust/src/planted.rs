@@ -7,6 +7,7 @@ use crate::antt::{Declaration, Kind};
 use crate::checks::{self, Report, Trust};
 use crate::closure::is_proof;
 use crate::edits::{Edits, Texts};
+use crate::layout::{self, Layout};
 use crate::page;
 use crate::trial::{Plant, Trial};
 use std::path::Path;
@@ -51,8 +52,11 @@ struct Victims<'a> {
     theorem: String,
     /// A file of specs/ that is not of the closure.
     other: Option<String>,
-    /// A file of specs/ in which a theorem stands.
+    /// A file of specs/ in which a theorem stands, and one of proofs/.
     stated: Option<String>,
+    proof: Option<String>,
+    /// The greatest number of the layout, with its name.
+    number: (String, u64),
     /// The first definition of the closure that is a function, and its folder and file.
     definition: Declaration,
     folder: String,
@@ -70,6 +74,9 @@ impl<'a> Victims<'a> {
             .theorems
             .iter()
             .find(|theorem| !is_proof(&theorem.path));
+        let proof = page.theorems.iter().find(|theorem| is_proof(&theorem.path));
+        let numbers = Layout::of(&trust.tree.files()).values;
+        let number = numbers.into_iter().max_by_key(|(_, value)| *value);
         let functions = trust.crates.functions(call);
         let (source, function) = functions.first().ok_or("the first call is not there")?;
         let contract = function.contract_lines();
@@ -84,6 +91,8 @@ impl<'a> Victims<'a> {
             theorem: theorem.name.clone(),
             other: trust.other_specs().into_iter().next(),
             stated: stated.map(|theorem| theorem.path.clone()),
+            proof: proof.map(|theorem| theorem.path.clone()),
+            number: number.ok_or("the layout has no number")?,
             definition,
             folder: file
                 .rsplit_once('/')
@@ -101,6 +110,7 @@ impl<'a> Victims<'a> {
         all.extend(self.unlisted());
         all.extend(self.wrong_definitions());
         all.extend(self.laws());
+        all.extend(self.literals());
         all.extend(self.fine());
         all
     }
@@ -294,10 +304,45 @@ impl<'a> Victims<'a> {
         all
     }
 
+    /// Numbers of the stored form where they have no name.
+    fn literals(&self) -> Vec<Plant> {
+        let (name, number) = &self.number;
+        let is_named = format!("{number} is `{name}` of");
+        let plant = |what, path: &str, text: String| {
+            let wanted = [path, &is_named];
+            Plant::fault(what, self.texts.append(path, &text), &wanted)
+        };
+        let equation = format!("abbrev planted : ℕ\nplanted = {number}\n");
+        let constant = format!("const PLANTED: usize = {number};\n");
+        let mut all = vec![
+            plant("a number of the layout in the code", &self.code, constant),
+            plant(
+                "a number of the layout in a definition",
+                &self.file,
+                equation.clone(),
+            ),
+        ];
+        if let Some(proof) = &self.proof {
+            all.push(plant("a number of the layout in a proof", proof, equation));
+        }
+        let start = format!("{name} = ");
+        let broken = self
+            .texts
+            .replace(layout::DEFINED, &start, "=", "= planted +");
+        let wanted = [layout::DEFINED, &quoted(name), "cannot be computed"];
+        all.push(Plant::fault(
+            "a number of the layout that cannot be computed",
+            broken,
+            &wanted,
+        ));
+        all
+    }
+
     fn fine(&self) -> Vec<Plant> {
         let function = "fn planted(x: u32) -> u32\n{\n    x\n}\n";
         let local = "planted = it\n  where\n    it : Type 1\n    it = Type 0\n";
         let local = format!("unfoldable planted : Type 1\n{local}");
+        let comment = format!("// {}\n", self.number.1);
         let plant = |name, path, text| Plant::fine(name, self.texts.append(path, text));
         vec![
             plant(
@@ -308,6 +353,7 @@ impl<'a> Victims<'a> {
             plant("a definition with a local name", &self.file, &local),
             plant("a comment in the code", &self.code, "// pub fn planted()\n"),
             plant("a private function", &self.code, function),
+            plant("a number of the layout in a comment", &self.code, &comment),
         ]
     }
 

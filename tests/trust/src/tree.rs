@@ -3,6 +3,7 @@
 
 use crate::antt::{self, Declaration, Import, Kind};
 use crate::code::{self, Code};
+use crate::layout::File;
 use crate::names::Constructors;
 use std::cell::RefCell;
 use std::collections::HashMap;
@@ -224,6 +225,25 @@ impl Tree {
             .retain(|path| path.split('/').nth(2) == Some("specs") && !path.ends_with("/Lib.antt"));
         paths.sort();
         paths
+    }
+
+    /// All files of code, definitions and proofs, with their texts.
+    pub fn files(&self) -> Vec<File> {
+        let mut paths = Vec::new();
+        for ending in [".rt", ".antt"] {
+            list_files(&self.root, "crates", ending, &mut paths);
+        }
+        let is_part = |path: &String| {
+            let part = path.split('/').nth(2);
+            matches!(part, Some("src" | "specs" | "proofs"))
+        };
+        paths.retain(is_part);
+        paths.sort();
+        let read = |path: String| {
+            let text = fs::read_to_string(self.root.join(&path)).ok()?;
+            Some((path, text))
+        };
+        paths.into_iter().filter_map(read).collect()
     }
 
     /// The declaration at a place.

@@ -5,13 +5,14 @@ use Prim.Native.Nat.{ℕ, _+_, _-_, _≤_}
 use native.Mathlib.Omega.{arith}
 use mathlib.Core.Path.{_≡_, refl, subst, _∙_}
 use lib.ListN.{length, getD, take, length-set}
+use Rattle.codec.specs.ByteList.{listCapacity}
 use Rattle.codec.specs.Bytes.{part}
 use Rattle.codec.proofs.BytesLaws.{get-step}
 use Rattle.codec.proofs.get_list.Statement.{statement}
 use Rattle.codec.proofs.get_list.Tie as tie
 
 abbrev Inv-loop : tie.InvT-loop
-Inv-loop b at n from places₀ i₀ places i = (i ≤ n) × (length places ≡ 72) × (take i places ≡ part from i b)
+Inv-loop b at n from places₀ i₀ places i = (i ≤ n) × (length places ≡ listCapacity) × (take i places ≡ part from i b)
 
 abbrev μ-loop : tie.MeasureT-loop
 μ-loop b at n from places₀ i₀ places i = n - i

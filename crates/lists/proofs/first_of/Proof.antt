@@ -3,6 +3,7 @@ use borrow.Author.Needs.{needs}
 use native.Mathlib.Omega.{arith}
 use mathlib.Core.Path.{_≡_, sym}
 use lib.ListN.{length}
+use Rattle.codec.specs.ByteList.{listCapacity}
 use Rattle.lists.proofs.EndsLaws.{first-none, first-some}
 use Rattle.lists.proofs.first_of.Statement.{statement}
 use Rattle.lists.proofs.first_of.Tie as tie
@@ -10,7 +11,7 @@ use Rattle.lists.proofs.first_of.Tie as tie
 returns : tie.Need-returns
 returns c =
     let l = c .before .args .t1 in
-    let full : length (l .places) ≡ 72 = search needs in
+    let full : length (l .places) ≡ listCapacity = search needs in
     sym (first-none l full (omega arith))
 
 element-copy-out-x : tie.Need-element-copy-out-x
@@ -19,7 +20,7 @@ element-copy-out-x c = search needs
 returns-2 : tie.Need-returns-2
 returns-2 c =
     let l = c .before .before .args .t1 in
-    let full : length (l .places) ≡ 72 = search needs in
+    let full : length (l .places) ≡ listCapacity = search needs in
     sym (first-some l full (omega arith))
 
 pub first-of-spec : {M : Type 1} → statement M

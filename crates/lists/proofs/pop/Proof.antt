@@ -6,12 +6,13 @@ use mathlib.Core.Path.{_≡_, refl, subst, ap, sym, _∙_}
 use lib.ListN.{length, getD, take, drop, set, length-set}
 use Rattle.codec.specs.Bytes.{part}
 use Rattle.codec.proofs.BytesLaws.{get-step}
+use Rattle.codec.specs.ByteList.{listCapacity}
 use Rattle.lists.proofs.EndsLaws.{popped}
 use Rattle.lists.proofs.pop.Statement.{statement}
 use Rattle.lists.proofs.pop.Tie as tie
 
 abbrev Inv-loop : tie.InvT-loop
-Inv-loop n old places₀ i₀ places i = (i ≤ n) × (length places ≡ 72) × (take i places ≡ part 1 i old)
+Inv-loop n old places₀ i₀ places i = (i ≤ n) × (length places ≡ listCapacity) × (take i places ≡ part 1 i old)
 
 abbrev μ-loop : tie.MeasureT-loop
 μ-loop n old places₀ i₀ places i = n - i
@@ -41,7 +42,7 @@ loop-again : tie.Need-loop-again Inv-loop μ-loop
 loop-again c =
     let a = c .before .before .before .before .before .args in
     let l = c .before .loop in
-    let full : length (a .l .places) ≡ 72 = search needs in
+    let full : length (a .l .places) ≡ listCapacity = search needs in
     let e : 1 + l .i ≡ l .i + 1 = omega arith in (
       search needs,
       length-set (l .places) (l .i) (getD (a .l .places) (l .i + 1) 0) ∙ l .inv .1,

@@ -2,6 +2,7 @@
 use borrow.Author.Needs.{needs}
 use mathlib.Core.Path.{_≡_, refl}
 use lib.ListN.{length}
+use Rattle.codec.specs.ByteList.{listCapacity}
 use Rattle.lists.proofs.EndsLaws.{pushed}
 use Rattle.lists.proofs.push.Statement.{statement}
 use Rattle.lists.proofs.push.Tie as tie
@@ -15,7 +16,7 @@ add-t8 c = search needs
 returns : tie.Need-returns
 returns c =
     let l = c .before .args .l in
-    let full : length (l .places) ≡ 72 = search needs in
+    let full : length (l .places) ≡ listCapacity = search needs in
     (refl, pushed l full (c .before .args .x) (c .before .pre))
 
 pub push-spec : {M : Type 1} → statement M

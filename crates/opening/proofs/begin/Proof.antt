@@ -7,8 +7,7 @@ use lib.Pow.{pow-mono}
 use lib.Seq.{sets}
 use borrow.Author.Needs.{needs}
 use Rattle.codec.specs.Number.{digits}
-use Rattle.model.specs.Hall.{maxRecorders}
-use Rattle.store.specs.Layout.{storedLength}
+use Rattle.store.specs.Layout.{storedLength, numberSize, viewsAt, viewCells, viewSets}
 use Rattle.opening.proofs.OpenedLaws.{begin-bytes}
 use Rattle.opening.proofs.begin.Statement.{statement}
 use Rattle.opening.proofs.begin.Tie as tie
@@ -44,17 +43,16 @@ same-length : tie.Need-same-length
 same-length c = search needs
 
 returns : tie.Need-returns
-unfolding maxRecorders
 returns c =
     let n = c .before .before .before .before .before .before .before .before .before .before .before .before .before .before .before .before .before .before .before .before .before .args .n in
     let set = c .before .before .before .before .before .before .before .before .before .before .before .before .before .before .before .before .before .before .before .before .before .args .set in
     let h = c .before .before .before .before .before .before .before .before .before .before .before .before .before .before .before .before .before .before .before .before .before .pre in
     c .before .before .put-byte3 .ensures
-    ∙ ap (λ (z : List ℕ). sets z 1 (digits 1 1))
+    ∙ ap (λ (z : List ℕ). sets z viewsAt (digits 1 1))
     (c .before .before .before .before .before .before .put-byte2 .ensures
-    ∙ ap (λ (z : List ℕ). sets z 6 (digits 1 set))
+    ∙ ap (λ (z : List ℕ). sets z viewSets (digits 1 set))
     (c .before .before .before .before .before .before .before .before .before .before .put-u32 .ensures
-    ∙ ap (λ (z : List ℕ). sets z 2 (digits 4 1))
+    ∙ ap (λ (z : List ℕ). sets z viewCells (digits numberSize 1))
     (c .before .before .before .before .before .before .before .before .before .before .before .before .before .before .put-byte .ensures ∙ ap (λ (z : List ℕ). sets z 0 (digits 1 n)) (c .before .before .before .before .before .before .before .before .before .before .before .before .before .before .before .before .before .before .clear .ensures))))
     ∙ begin-bytes n set (h .size) (h .founders .0) (h .founders .1) (c .before .before .before .before .before .before .before .before .before .before .before .before .before .before .before .before .before .before .before .before .before .args .b .now) storedLength refl (h .long)
 

@@ -7,7 +7,6 @@ use mathlib.Core.List.{List, _++_}
 use lib.ListN.{length}
 use lib.Seq.{sets}
 use borrow.Author.Needs.{needs}
-use Rattle.model.specs.Hall.{maxRecorders}
 use Rattle.store.specs.Layout.{recordersAt, recorderSize}
 use Rattle.store.specs.CellForms.{recorderForm}
 use Rattle.store.specs.StoredForm.{stored}
@@ -39,7 +38,6 @@ loop-less : tie.Need-loop-less Inv-loop μ-loop
 loop-less c = search needs
 
 loop-again : tie.Need-loop-again Inv-loop μ-loop
-unfolding maxRecorders
 loop-again c =
     let n = c .before .before .before .before .before .before .before .args .n in
     let set = c .before .before .before .before .before .before .before .args .set in

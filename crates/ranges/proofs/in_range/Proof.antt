@@ -8,6 +8,7 @@ use Rattle.ranges.proofs.TablePartsLaws.{views-count, no-size, no-views
 use Rattle.ranges.proofs.in_range.Statement.{statement}
 use Rattle.ranges.proofs.in_range.Tie as tie
 use borrow.Author.Needs.{needs}
+use Rattle.model.specs.Hall.{maxRecorders}
 
 valid-byte-requires : tie.Need-valid-byte-requires
 valid-byte-requires c κs = search needs
@@ -21,7 +22,7 @@ shared-slice-read-n c = search needs
 
 valid-views-requires : tie.Need-valid-views-requires
 valid-views-requires c κs =
-    let n = byte-in 1 8 0 (now (c .before .before .before .before .args .b)) (omega arith) (sym (c .before .before .valid-byte .ensures) ∙ not-false (c .before .before .valid-byte .result) (c .before .if1 .left)) in
+    let n = byte-in 1 maxRecorders 0 (now (c .before .before .before .before .args .b)) (omega arith) (sym (c .before .before .valid-byte .ensures) ∙ not-false (c .before .before .valid-byte .result) (c .before .if1 .left)) in
     (n .0, n .1, search needs)
 
 returns-2 : tie.Need-returns-2
@@ -40,7 +41,7 @@ cast-valid-tables c = omega (arith, c .shared-slice-known3 .given 1)
 valid-tables-requires : tie.Need-valid-tables-requires
 valid-tables-requires c κs =
     let b = now (c .before .before .before .before .before .before .before .args .b) in
-    let n = byte-in 1 8 0 b (omega arith) (sym (c .before .before .before .before .before .valid-byte .ensures) ∙ not-false (c .before .before .before .before .before .valid-byte .result) (c .before .before .before .before .if1 .left)) in
+    let n = byte-in 1 maxRecorders 0 b (omega arith) (sym (c .before .before .before .before .before .valid-byte .ensures) ∙ not-false (c .before .before .before .before .before .valid-byte .result) (c .before .before .before .before .if1 .left)) in
     let v = sym (c .before .before .valid-views .ensures) ∙ not-false (c .before .before .valid-views .result) (c .before .if2 .left) in
     (n .1, views-count _ b (omega arith) v, search needs)
 

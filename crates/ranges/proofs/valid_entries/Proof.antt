@@ -6,12 +6,13 @@ use Rattle.ranges.proofs.TablePartsLaws.{entries-over, entries-within}
 use Rattle.ranges.proofs.valid_entries.Statement.{statement}
 use Rattle.ranges.proofs.valid_entries.Tie as tie
 use borrow.Author.Needs.{needs}
+use Rattle.store.specs.Layout.{entriesAt}
 
 shared-slice-read-m : tie.Need-shared-slice-read-m
 shared-slice-read-m c = search needs
 
 cast-m : tie.Need-cast-m
-cast-m c = omega (arith, c .shared-slice-known2 .given 162)
+cast-m c = omega (arith, c .shared-slice-known2 .given entriesAt)
 
 returns : tie.Need-returns
 returns c = sym (entries-over (c .before .before .before .args .n) (now (c .before .before .before .args .b)) (omega arith) (c .if1 .taken))

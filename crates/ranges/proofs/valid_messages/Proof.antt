@@ -5,7 +5,9 @@ use Prim.Native.Nat.{_+_, _-_, _≤_}
 use native.Mathlib.Omega.{arith}
 use mathlib.Core.Path.{sym, _∙_}
 use borrow.Author.Tests.{not-true, not-false}
+use Rattle.model.specs.Hall.{maxQueue}
 use Rattle.store.specs.CellForms.{queuedForm}
+use Rattle.store.specs.Layout.{messagesSize}
 use Rattle.ranges.proofs.Loops.{Left, left-start, left-next, cells-fail, cells-done}
 use Rattle.ranges.proofs.valid_messages.Statement.{statement}
 use Rattle.ranges.proofs.valid_messages.Tie as tie
@@ -34,7 +36,7 @@ returns : tie.Need-returns Inv-loop μ-loop
 returns c =
     let a = c .before .before .before .before .before .args in
     sym
-    (cells-fail queuedForm (a .at) (a .m) (now (a .b)) 72 (a .at + 144) (search needs) (omega arith) (c .before .before .before .loop .i) (c .before .before .loop-test .taken)
+    (cells-fail queuedForm (a .at) (a .m) (now (a .b)) maxQueue (a .at + messagesSize) (search needs) (omega arith) (c .before .before .before .loop .i) (c .before .before .loop-test .taken)
     (sym (c .before .valid-queued .ensures) ∙ not-true (c .before .valid-queued .result) (c .if1 .taken)) (c .before .before .before .loop .inv .1))
 
 add-i : tie.Need-add-i Inv-loop μ-loop
@@ -67,7 +69,7 @@ returns-2 : tie.Need-returns-2 Inv-loop μ-loop
 returns-2 c =
     let a = c .before .before .before .before .args in
     c .is-zero .ensures
-    ∙ sym (cells-done queuedForm (a .at) (a .m) (now (a .b)) 72 (a .at + 144) (search needs) (omega arith) (c .before .before .loop .i) (c .before .loop-test .left) (c .before .before .loop .inv .1))
+    ∙ sym (cells-done queuedForm (a .at) (a .m) (now (a .b)) maxQueue (a .at + messagesSize) (search needs) (omega arith) (c .before .before .loop .i) (c .before .loop-test .left) (c .before .before .loop .inv .1))
 
 pub valid-messages-spec : {M : Type 1} → statement M
 valid-messages-spec =

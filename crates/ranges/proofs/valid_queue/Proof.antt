@@ -2,12 +2,12 @@
 use denote.Ref.{now}
 use native.Mathlib.Omega.{arith}
 use mathlib.Core.Path.{sym, _∙_}
-use Rattle.model.specs.Hall.{maxQueue}
 use Rattle.store.specs.CellForms.{queuedForm, queueForm}
 use Rattle.ranges.proofs.Loops.{bounded-over, bounded-within}
 use Rattle.ranges.proofs.valid_queue.Statement.{statement}
 use Rattle.ranges.proofs.valid_queue.Tie as tie
 use borrow.Author.Needs.{needs}
+use Rattle.model.specs.Hall.{maxQueue}
 
 shared-slice-read-m : tie.Need-shared-slice-read-m
 shared-slice-read-m c = search needs
@@ -16,8 +16,8 @@ cast-m : tie.Need-cast-m
 cast-m c = omega (arith, c .shared-slice-known2 .given (c .before .before .args .at))
 
 returns : tie.Need-returns
-unfolding queueForm maxQueue
-returns c = sym (bounded-over queuedForm 72 (c .before .before .before .args .at) (now (c .before .before .before .args .b)) (c .before .before .before .pre) (c .if1 .taken))
+unfolding queueForm
+returns c = sym (bounded-over queuedForm maxQueue (c .before .before .before .args .at) (now (c .before .before .before .args .b)) (c .before .before .before .pre) (c .if1 .taken))
 
 add-valid-messages : tie.Need-add-valid-messages
 add-valid-messages c = search needs
@@ -26,8 +26,8 @@ valid-messages-requires : tie.Need-valid-messages-requires
 valid-messages-requires c κs = search needs
 
 returns-2 : tie.Need-returns-2
-unfolding queueForm maxQueue
-returns-2 c = c .valid-messages .ensures ∙ sym (bounded-within queuedForm 72 (c .before .before .before .before .args .at) (now (c .before .before .before .before .args .b)) (c .before .before .before .before .pre) (c .before .if1 .left))
+unfolding queueForm
+returns-2 c = c .valid-messages .ensures ∙ sym (bounded-within queuedForm maxQueue (c .before .before .before .before .args .at) (now (c .before .before .before .before .args .b)) (c .before .before .before .before .pre) (c .before .if1 .left))
 
 pub valid-queue-spec : {M : Type 1} → statement M
 valid-queue-spec =

@@ -5,13 +5,15 @@ use Prim.Native.Nat.{_-_, _≤_}
 use native.Mathlib.Omega.{arith}
 use mathlib.Core.Path.{sym, _∙_}
 use borrow.Author.Tests.{not-true, not-false}
+use Rattle.model.specs.Hall.{maxRecorders}
 use Rattle.store.specs.CellForms.{recorderForm}
+use Rattle.store.specs.Layout.{recordersAt, networkAt}
 use Rattle.ranges.proofs.Loops.{Left, left-start, left-next, cells-fail, cells-done}
 use Rattle.ranges.proofs.valid_recorders.Statement.{statement}
 use Rattle.ranges.proofs.valid_recorders.Tie as tie
 
 abbrev Inv-loop : tie.InvT-loop
-Inv-loop b n i₀ i = (i ≤ n) × Left recorderForm 803 n b i
+Inv-loop b n i₀ i = (i ≤ n) × Left recorderForm recordersAt n b i
 
 abbrev μ-loop : tie.MeasureT-loop
 μ-loop b n i₀ i = n - i
@@ -19,7 +21,7 @@ abbrev μ-loop : tie.MeasureT-loop
 loop-holds : tie.Need-loop-holds Inv-loop μ-loop
 loop-holds c =
     let a = c .before .args in
-    (search needs, left-start recorderForm 803 (a .n) (now (a .b)))
+    (search needs, left-start recorderForm recordersAt (a .n) (now (a .b)))
 
 mul-valid-recorder : tie.Need-mul-valid-recorder Inv-loop μ-loop
 mul-valid-recorder c = search needs
@@ -34,7 +36,7 @@ returns : tie.Need-returns Inv-loop μ-loop
 returns c =
     let a = c .before .before .before .before .before .args in
     sym
-    (cells-fail recorderForm 803 (a .n) (now (a .b)) 8 3091 (search needs) (omega arith) (c .before .before .before .loop .i) (c .before .before .loop-test .taken)
+    (cells-fail recorderForm recordersAt (a .n) (now (a .b)) maxRecorders networkAt (search needs) (omega arith) (c .before .before .before .loop .i) (c .before .before .loop-test .taken)
     (sym (c .before .valid-recorder .ensures) ∙ not-true (c .before .valid-recorder .result) (c .if1 .taken)) (c .before .before .before .loop .inv .1))
 
 add-i : tie.Need-add-i Inv-loop μ-loop
@@ -47,7 +49,7 @@ loop-again : tie.Need-loop-again Inv-loop μ-loop
 loop-again c =
     let a = c .before .before .before .before .before .args in (
       search needs,
-      left-next recorderForm 803 (a .n) (now (a .b)) (c .before .before .before .loop .i) (c .before .before .loop-test .taken)
+      left-next recorderForm recordersAt (a .n) (now (a .b)) (c .before .before .before .loop .i) (c .before .before .loop-test .taken)
           (sym (c .before .valid-recorder .ensures) ∙ not-false (c .before .valid-recorder .result) (c .if1 .left)) (c .before .before .before .loop .inv .1),
     )
 
@@ -64,7 +66,7 @@ returns-2 : tie.Need-returns-2 Inv-loop μ-loop
 returns-2 c =
     let a = c .before .before .before .before .args in
     c .is-zero .ensures
-    ∙ sym (cells-done recorderForm 803 (a .n) (now (a .b)) 8 3091 (search needs) (omega arith) (c .before .before .loop .i) (c .before .loop-test .left) (c .before .before .loop .inv .1))
+    ∙ sym (cells-done recorderForm recordersAt (a .n) (now (a .b)) maxRecorders networkAt (search needs) (omega arith) (c .before .before .loop .i) (c .before .loop-test .left) (c .before .before .loop .inv .1))
 
 pub valid-recorders-spec : {M : Type 1} → statement M
 valid-recorders-spec =

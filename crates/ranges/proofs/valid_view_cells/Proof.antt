@@ -5,13 +5,15 @@ use Prim.Native.Nat.{_-_, _≤_}
 use native.Mathlib.Omega.{arith}
 use mathlib.Core.Path.{sym, _∙_}
 use borrow.Author.Tests.{not-true, not-false}
+use Rattle.model.specs.Hall.{maxViews}
 use Rattle.store.specs.ViewForm.{viewForm}
+use Rattle.store.specs.Layout.{viewCells, entriesAt}
 use Rattle.ranges.proofs.Loops.{Left, left-start, left-next, cells-fail, cells-done}
 use Rattle.ranges.proofs.valid_view_cells.Statement.{statement}
 use Rattle.ranges.proofs.valid_view_cells.Tie as tie
 
 abbrev Inv-loop : tie.InvT-loop
-Inv-loop b m n i₀ i = (i ≤ m) × Left (viewForm n) 2 m b i
+Inv-loop b m n i₀ i = (i ≤ m) × Left (viewForm n) viewCells m b i
 
 abbrev μ-loop : tie.MeasureT-loop
 μ-loop b m n i₀ i = m - i
@@ -19,7 +21,7 @@ abbrev μ-loop : tie.MeasureT-loop
 loop-holds : tie.Need-loop-holds Inv-loop μ-loop
 loop-holds c =
     let a = c .before .args in
-    (search needs, left-start (viewForm (a .n)) 2 (a .m) (now (a .b)))
+    (search needs, left-start (viewForm (a .n)) viewCells (a .m) (now (a .b)))
 
 mul-valid-view : tie.Need-mul-valid-view Inv-loop μ-loop
 mul-valid-view c = search needs
@@ -34,7 +36,7 @@ returns : tie.Need-returns Inv-loop μ-loop
 returns c =
     let a = c .before .before .before .before .before .args in
     sym
-    (cells-fail (viewForm (a .n)) 2 (a .m) (now (a .b)) 32 162 (search needs) (omega arith) (c .before .before .before .loop .i) (c .before .before .loop-test .taken)
+    (cells-fail (viewForm (a .n)) viewCells (a .m) (now (a .b)) maxViews entriesAt (search needs) (omega arith) (c .before .before .before .loop .i) (c .before .before .loop-test .taken)
     (sym (c .before .valid-view .ensures) ∙ not-true (c .before .valid-view .result) (c .if1 .taken)) (c .before .before .before .loop .inv .1))
 
 add-i : tie.Need-add-i Inv-loop μ-loop
@@ -47,7 +49,7 @@ loop-again : tie.Need-loop-again Inv-loop μ-loop
 loop-again c =
     let a = c .before .before .before .before .before .args in (
       search needs,
-      left-next (viewForm (a .n)) 2 (a .m) (now (a .b)) (c .before .before .before .loop .i) (c .before .before .loop-test .taken)
+      left-next (viewForm (a .n)) viewCells (a .m) (now (a .b)) (c .before .before .before .loop .i) (c .before .before .loop-test .taken)
           (sym (c .before .valid-view .ensures) ∙ not-false (c .before .valid-view .result) (c .if1 .left)) (c .before .before .before .loop .inv .1),
     )
 
@@ -64,7 +66,7 @@ returns-2 : tie.Need-returns-2 Inv-loop μ-loop
 returns-2 c =
     let a = c .before .before .before .before .args in
     c .is-zero .ensures
-    ∙ sym (cells-done (viewForm (a .n)) 2 (a .m) (now (a .b)) 32 162 (search needs) (omega arith) (c .before .before .loop .i) (c .before .loop-test .left) (c .before .before .loop .inv .1))
+    ∙ sym (cells-done (viewForm (a .n)) viewCells (a .m) (now (a .b)) maxViews entriesAt (search needs) (omega arith) (c .before .before .loop .i) (c .before .loop-test .left) (c .before .before .loop .inv .1))
 
 pub valid-view-cells-spec : {M : Type 1} → statement M
 valid-view-cells-spec =

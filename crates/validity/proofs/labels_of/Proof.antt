@@ -5,12 +5,14 @@ use Prim.Native.Nat.{ℕ, _-_, _≤_}
 use native.Mathlib.Omega.{arith}
 use mathlib.Core.Path.{_≡_, refl, ap, subst, _∙_}
 use lib.ListN.{length, getD, length-set}
+use Rattle.model.specs.Hall.{maxEntries}
+use Rattle.store.specs.Layout.{entriesAt}
 use Rattle.validity.proofs.CodeLaws.{labelByte, labels-start, labels-next, labels-done}
 use Rattle.validity.proofs.labels_of.Statement.{statement}
 use Rattle.validity.proofs.labels_of.Tie as tie
 
 abbrev Inv-loop : tie.InvT-loop
-Inv-loop b m labels₀ i₀ labels i = (i ≤ m) × (m ≤ 64) × (length labels ≡ 64) × ((j : ℕ) → getD labels j 0 ≡ labelByte b i j)
+Inv-loop b m labels₀ i₀ labels i = (i ≤ m) × (m ≤ maxEntries) × (length labels ≡ maxEntries) × ((j : ℕ) → getD labels j 0 ≡ labelByte b i j)
 
 abbrev μ-loop : tie.MeasureT-loop
 μ-loop b m labels₀ i₀ labels i = m - i
@@ -54,7 +56,7 @@ returns : tie.Need-returns Inv-loop μ-loop
 returns c =
     let b = now (c .before .before .before .args .b) in
     let l = c .before .loop in
-    let e : l .i ≡ getD b 162 0 = omega arith in
+    let e : l .i ≡ getD b entriesAt 0 = omega arith in
     labels-done b (l .labels) (c .before .before .before .pre .held) (subst (λ (n : ℕ). (j : ℕ) → getD (l .labels) j 0 ≡ labelByte b n j) e (l .inv .3))
 
 pub labels-of-spec : {M : Type 1} → statement M

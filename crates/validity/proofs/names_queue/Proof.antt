@@ -7,8 +7,10 @@ use mathlib.Core.Path.{_≡_, sym, _∙_}
 use lib.ListN.{getD, drop}
 use borrow.Author.Tests.{not-true, not-false}
 use Rattle.codec.specs.Cells.{decodeAll}
+use Rattle.model.specs.Hall.{maxQueue}
 use Rattle.store.specs.Valid.{queueNames}
 use Rattle.store.specs.CellForms.{queuedForm}
+use Rattle.store.specs.Layout.{queuedSize, queueSize, queuesAt}
 use Rattle.validity.specs.Alls.{viewAt}
 use Rattle.validity.specs.RawHall.{raw}
 use Rattle.validity.proofs.RawCells.{queue-count}
@@ -18,12 +20,12 @@ use Rattle.validity.proofs.names_queue.Tie as tie
 
 abbrev Inv-loop : tie.InvT-loop
 Inv-loop b i labels at count j₀ j =
-    (j ≤ getD b (55059 + i * 145) 0) × (getD b (55059 + i * 145) 0 ≤ 72)
+    (j ≤ getD b (queuesAt + i * queueSize) 0) × (getD b (queuesAt + i * queueSize) 0 ≤ maxQueue)
     × (queueNames (raw b) (viewAt b i) (raw b .service .queue (viewAt b i))
-    ≡ queueNames (raw b) (viewAt b i) (decodeAll queuedForm (getD b (55059 + i * 145) 0 - j) (drop (55059 + i * 145 + 1 + j * 2) b)))
+    ≡ queueNames (raw b) (viewAt b i) (decodeAll queuedForm (getD b (queuesAt + i * queueSize) 0 - j) (drop (queuesAt + i * queueSize + 1 + j * queuedSize) b)))
 
 abbrev μ-loop : tie.MeasureT-loop
-μ-loop b i labels at count j₀ j = getD b (55059 + i * 145) 0 - j
+μ-loop b i labels at count j₀ j = getD b (queuesAt + i * queueSize) 0 - j
 
 mul-at : tie.Need-mul-at Inv-loop μ-loop
 mul-at c = search needs
@@ -35,7 +37,7 @@ shared-slice-read-count : tie.Need-shared-slice-read-count Inv-loop μ-loop
 shared-slice-read-count c = search needs
 
 cast-count : tie.Need-cast-count Inv-loop μ-loop
-cast-count c = omega (arith, c .shared-slice-known2 .given (55059 + c .before .before .args .i * 145))
+cast-count c = omega (arith, c .shared-slice-known2 .given (queuesAt + c .before .before .args .i * queueSize))
 
 loop-holds : tie.Need-loop-holds Inv-loop μ-loop
 loop-holds c =
@@ -65,7 +67,7 @@ returns c =
     let b = now (a .b) in
     sym
     (c .before .before .before .loop .inv .2
-    ∙ queue-fail b (h .0 .held) (now (a .labels)) (h .1 .1) (a .i) (h .1 .0) (55059 + a .i * 145 + 1) (getD b (55059 + a .i * 145) 0) (c .before .before .before .loop .j) (c .before .before .loop-test .taken) (omega arith)
+    ∙ queue-fail b (h .0 .held) (now (a .labels)) (h .1 .1) (a .i) (h .1 .0) (queuesAt + a .i * queueSize + 1) (getD b (queuesAt + a .i * queueSize) 0) (c .before .before .before .loop .j) (c .before .before .loop-test .taken) (omega arith)
     (sym (c .before .names-queued .ensures) ∙ not-true (c .before .names-queued .result) (c .if1 .taken)))
 
 add-j : tie.Need-add-j Inv-loop μ-loop
@@ -82,7 +84,7 @@ loop-again c =
       search needs,
       search needs,
       c .before .before .before .loop .inv .2
-          ∙ queue-next b (h .0 .held) (now (a .labels)) (h .1 .1) (a .i) (h .1 .0) (55059 + a .i * 145 + 1) (getD b (55059 + a .i * 145) 0) (c .before .before .before .loop .j) (c .before .before .loop-test .taken) (omega arith)
+          ∙ queue-next b (h .0 .held) (now (a .labels)) (h .1 .1) (a .i) (h .1 .0) (queuesAt + a .i * queueSize + 1) (getD b (queuesAt + a .i * queueSize) 0) (c .before .before .before .loop .j) (c .before .before .loop-test .taken) (omega arith)
           (sym (c .before .names-queued .ensures) ∙ not-false (c .before .names-queued .result) (c .if1 .left)),
     )
 
@@ -93,7 +95,7 @@ returns-2 c =
     let b = now (a .b) in
     sym
     (c .before .loop .inv .2
-    ∙ queue-done b (h .0 .held) (now (a .labels)) (h .1 .1) (a .i) (h .1 .0) (55059 + a .i * 145 + 1) (getD b (55059 + a .i * 145) 0) (c .before .loop .j) (c .loop-test .left))
+    ∙ queue-done b (h .0 .held) (now (a .labels)) (h .1 .1) (a .i) (h .1 .0) (queuesAt + a .i * queueSize + 1) (getD b (queuesAt + a .i * queueSize) 0) (c .before .loop .j) (c .loop-test .left))
 
 pub names-queue-spec : {M : Type 1} → statement M
 names-queue-spec =

@@ -7,16 +7,17 @@ use mathlib.Core.Bool.{true}
 use borrow.Author.Tests.{not-true, not-false}
 use Rattle.quorum.specs.Sets.{recorders}
 use Rattle.model.specs.Base.{all}
+use Rattle.model.specs.Hall.{maxEntries}
 use Rattle.validity.proofs.AllsLaws.{all-none, all-next, all-fail, all-done}
 use Rattle.validity.specs.Marks.{setOk}
 use Rattle.validity.proofs.names_set.Statement.{statement}
 use Rattle.validity.proofs.names_set.Tie as tie
 
 abbrev Inv-loop : tie.InvT-loop
-Inv-loop b at labels j₀ j = (j ≤ 64) × (all (setOk labels b at) (recorders j) ≡ true)
+Inv-loop b at labels j₀ j = (j ≤ maxEntries) × (all (setOk labels b at) (recorders j) ≡ true)
 
 abbrev μ-loop : tie.MeasureT-loop
-μ-loop b at labels j₀ j = 64 - j
+μ-loop b at labels j₀ j = maxEntries - j
 
 loop-holds : tie.Need-loop-holds Inv-loop μ-loop
 loop-holds c =
@@ -32,7 +33,7 @@ in-set-requires c κs = search needs
 returns : tie.Need-returns Inv-loop μ-loop
 returns c =
     let a = c .before .before .before .before .before .args in
-    sym (all-fail (setOk (now (a .labels)) (now (a .b)) (a .at)) 64 (c .before .before .before .loop .j) (c .before .before .loop-test .taken) (sym (c .before .in-set .ensures) ∙ not-true (c .before .in-set .result) (c .if1 .taken)))
+    sym (all-fail (setOk (now (a .labels)) (now (a .b)) (a .at)) maxEntries (c .before .before .before .loop .j) (c .before .before .loop-test .taken) (sym (c .before .in-set .ensures) ∙ not-true (c .before .in-set .result) (c .if1 .taken)))
 
 add-j : tie.Need-add-j Inv-loop μ-loop
 add-j c = search needs
@@ -48,7 +49,7 @@ loop-again c =
 returns-2 : tie.Need-returns-2 Inv-loop μ-loop
 returns-2 c =
     let a = c .before .before .before .args in
-    sym (all-done (setOk (now (a .labels)) (now (a .b)) (a .at)) 64 (c .before .loop .j) (c .before .loop .inv .0) (c .loop-test .left) (c .before .loop .inv .1))
+    sym (all-done (setOk (now (a .labels)) (now (a .b)) (a .at)) maxEntries (c .before .loop .j) (c .before .loop .inv .0) (c .loop-test .left) (c .before .loop .inv .1))
 
 pub names-set-spec : {M : Type 1} → statement M
 names-set-spec =

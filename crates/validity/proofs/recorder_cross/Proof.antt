@@ -13,6 +13,8 @@ use Rattle.validity.proofs.CrossPartsLaws.{recorder-cross}
 use Rattle.validity.proofs.recorder_cross.Statement.{statement}
 use Rattle.validity.proofs.recorder_cross.Tie as tie
 use borrow.Author.Needs.{needs}
+use Rattle.model.specs.Hall.{maxRecorders}
+use Rattle.store.specs.Layout.{recorderHeardAt, recorderSafeSourcesAt, recorderSize, recordersAt}
 
 sub-at : tie.Need-sub-at
 sub-at c = search needs
@@ -104,7 +106,7 @@ returns c =
     let h = c .before .before .before .before .before .before .before .before .before .before .before .before .before .before .before .before .before .before .before .pre in
     let b = now (a .b) in
     let i = c .before .before .before .before .before .before .before .before .before .before .before .before .before .before .before .find-view .result in
-    let at : ℕ = 803 + (a .r - 1) * 286 in
+    let at : ℕ = recordersAt + (a .r - 1) * recorderSize in
     let g = c .before .before .before .before .before .before .before .before .before .before .before .before .before .before .before .before .before .get-u32 .ensures in
     let s = c .before .before .before .before .before .before .before .before .before .before .before .before .before .before .view-set .ensures in
     c .both6 .ensures
@@ -118,8 +120,8 @@ returns c =
     (c .before .before .before .before .before .before .both2 .ensures
     ∙ ap₂ _&&_ (c .before .before .before .before .before .before .before .names-set2 .ensures)
     (c .before .before .before .before .before .before .before .before .both .ensures
-    ∙ ap₂ _&&_ (c .before .before .before .before .before .before .before .before .before .before .heard-all .ensures ∙ ap (λ (w : ℕ). all (heardOk b (at + 270) (sizeAt b) w i) (recorders 8)) s)
-    (c .before .before .before .before .before .before .before .before .before .source-all .ensures ∙ ap (λ (w : ℕ). all (sourceOk b (at + 278) (sizeAt b) w) (recorders 8)) s))))))
+    ∙ ap₂ _&&_ (c .before .before .before .before .before .before .before .before .before .before .heard-all .ensures ∙ ap (λ (w : ℕ). all (heardOk b (at + recorderHeardAt) (sizeAt b) w i) (recorders maxRecorders)) s)
+    (c .before .before .before .before .before .before .before .before .before .source-all .ensures ∙ ap (λ (w : ℕ). all (sourceOk b (at + recorderSafeSourcesAt) (sizeAt b) w) (recorders maxRecorders)) s))))))
     ∙ sym
     (recorder-cross b (h .0 .held) (now (a .labels)) (h .1 .0) (a .r) (h .1 .1) (h .1 .2) i
     (subst (λ (z : ℕ). Found (viewCount b) b z i) g (c .before .before .before .before .before .before .before .before .before .before .before .before .before .before .before .find-view .ensures)))
