@@ -1,161 +1,109 @@
--- The words of a kind, as the code judges them: 01's chain with the tests that a kind does not use left out.
+-- The words of a kind, as the code judges them: each test by the use of its word, and the four tests in their order.
 -- Assumes nothing.
-use Prim.Native.Nat.{ℕ, _*_, _/_, _^_, _≤_, _<_}
+use Prim.Native.Nat.{ℕ, zero, suc, _-_, _*_, _/_, _^_, _≤_, _<_}
 use native.Mathlib.Omega.{arith}
-use mathlib.Core.Path.{_≡_, refl, sym, ap, ap₂, _∙_}
-use mathlib.Core.Bool.{Bool, true, false, not, _&&_, _||_, or-false, and-false, true≢false, false≢true}
-use mathlib.Core.Logic.{⊎-elim}
+use mathlib.Core.Path.{_≡_, sym, ap, ap₂, _∙_}
+use mathlib.Core.Bool.{Bool, true, false, not, _&&_, _||_}
+use mathlib.Core.Logic.{_⊎_, ⊎-elim}
 use native.Mathlib.Nat.{div-eq-of-lt, div-lt-iff-lt-mul}
 use lib.Pow.{pow-pos}
-use Rattle.quorum.specs.Sets.{filter, recorders}
-use Rattle.quorum.proofs.SetLaws.{all-recorders}
-use lib.Dec.{eqb, leb}
-use borrow.Author.Tests.{eq-eqb, ne-eqb, le-leb, lt-leb, leb-false}
+use lib.Dec.{eqb, leb, ltb}
+use borrow.Author.Tests.{eq-eqb, ne-eqb, le-leb, lt-leb, lt-ltb, le-ltb, leb-true, leb-false}
 use Rattle.model.specs.Base.{within, refuse, _⨾_}
-use Rattle.model.specs.Hall.{maxNumber}
-use Rattle.model.proofs.Agreement.Tools.{same?, true-or-false}
-use Rattle.model.specs.Kinds.{Uses, Kind, submit, label, sendEntry, sendSummary, form, enter, order, receive, notice, confirm, deliver, kinds, kindOf, uses, wrongRecorder, strayWord, wrongNumber, wrongSet, inputRefusal}
-use Rattle.words.specs.Words.{kindAt}
-
--- ## Refusals as numbers
-
-pub refuse-yes : (t : Bool) (k : ℕ) → t ≡ true → k ≡ refuse t k
-unfolding refuse
-refuse-yes t k e = sym (ap (λ b. refuse b k) e)
-
-pub refuse-no : (t : Bool) (k : ℕ) → t ≡ false → 0 ≡ refuse t k
-unfolding refuse
-refuse-no t k e = sym (ap (λ b. refuse b k) e)
-
-pub first-none : (a b : ℕ) → a ≡ 0 → b ≡ a ⨾ b
-unfolding _⨾_
-first-none a b e = sym (ap (λ t. elim t [ true ↦ b | false ↦ a ]) (eq-eqb a 0 e))
-
-pub first-some : (a b : ℕ) → (a ≡ 0 → ⊥) → a ≡ a ⨾ b
-unfolding _⨾_
-first-some a b ne = sym (ap (λ t. elim t [ true ↦ b | false ↦ a ]) (ne-eqb a 0 ne))
-
-none-last : (a : ℕ) → a ⨾ 0 ≡ a
-none-last a = ⊎-elim (λ e. sym (first-none a 0 e) ∙ sym e) (λ ne. sym (first-some a 0 ne)) (same? a 0)
-
--- a number out of a range, and within it
-pub low-out : (lo hi x : ℕ) → x < lo → not (within lo hi x) ≡ true
-unfolding within
-low-out lo hi x lt = ap (λ t. not (t && leb x hi)) (lt-leb lo x lt)
-
-pub high-out : (lo hi x : ℕ) → hi < x → not (within lo hi x) ≡ true
-unfolding within
-high-out lo hi x lt = ap (λ t. not (leb lo x && t)) (lt-leb x hi lt) ∙ ap not (and-false (leb lo x))
-
-pub inside : (lo hi x : ℕ) → lo ≤ x → x ≤ hi → not (within lo hi x) ≡ false
-unfolding within
-inside lo hi x a b = ap₂ (λ s t. not (s && t)) (le-leb lo x a) (le-leb x hi b)
-
--- ## The chain of each kind
-
--- a kind's chain goes by how it uses the words
-chain : ℕ → Uses → ℕ → ℕ → ℕ → ℕ
-chain n u r a b =
-    refuse (wrongRecorder n (u .r) r) 12
-    ⨾ refuse (strayWord (u .a) a || strayWord (u .b) b) 13
-    ⨾ refuse (wrongNumber (u .a) a || wrongNumber (u .b) b) 14
-    ⨾ refuse (wrongSet n (u .a) a || wrongSet n (u .b) b) 15
-
-by-uses : (n r a b : ℕ) (κ λ′ : Kind) → uses κ ≡ uses λ′ → inputRefusal n κ r a b ≡ inputRefusal n λ′ r a b
-unfolding inputRefusal chain
-by-uses n r a b κ λ′ same = ap (λ u. chain n u r a b) same
-
--- kinds that use R alone
-pub recorder-words : (n r a b : ℕ) (κ : Kind) → uses κ ≡ uses label
-    → inputRefusal n κ r a b ≡ refuse (not (within 1 n r)) 12 ⨾ refuse (not (eqb a 0) || not (eqb b 0)) 13
-unfolding inputRefusal uses wrongRecorder strayWord wrongNumber wrongSet refuse _⨾_
-recorder-words n r a b κ same =
-    by-uses n r a b κ label same
-    ∙ ap (λ z. refuse (not (within 1 n r)) 12 ⨾ z) (none-last (refuse (not (eqb a 0) || not (eqb b 0)) 13))
-
-pub submit-words : (n r a b : ℕ)
-    → inputRefusal n submit r a b ≡ refuse (not (within 1 n r)) 12 ⨾ refuse (not (eqb 0 0) || not (eqb b 0)) 13
-unfolding inputRefusal uses wrongRecorder strayWord wrongNumber wrongSet refuse _⨾_
-submit-words n r a b = ap (λ z. refuse (not (within 1 n r)) 12 ⨾ z) (none-last (refuse (not (eqb b 0)) 13))
-
--- kinds that use R and a view number
-pub view-words : (n r a b : ℕ) (κ : Kind) → uses κ ≡ uses enter
-    → inputRefusal n κ r a b
-    ≡ refuse (not (within 1 n r)) 12 ⨾ (refuse (not (eqb 0 0) || not (eqb b 0)) 13 ⨾ refuse (not (within 1 maxNumber a)) 14)
-unfolding inputRefusal uses wrongRecorder strayWord wrongNumber wrongSet refuse _⨾_
-view-words n r a b κ same =
-    by-uses n r a b κ enter same
-    ∙ ap (λ t. refuse (not (within 1 n r)) 12 ⨾ (refuse (not (eqb b 0)) 13 ⨾ (refuse t 14 ⨾ 0))) (or-false (not (within 1 maxNumber a)))
-    ∙ ap (λ z. refuse (not (within 1 n r)) 12 ⨾ (refuse (not (eqb b 0)) 13 ⨾ z)) (none-last (refuse (not (within 1 maxNumber a)) 14))
-
-pub form-words : (n r a b : ℕ)
-    → inputRefusal n form r a b
-    ≡ refuse (not (eqb r 0)) 12 ⨾ (refuse (not (within 1 maxNumber a)) 14 ⨾ refuse (eqb b 0 || leb (2 ^ n) b) 15)
-unfolding inputRefusal uses wrongRecorder strayWord wrongNumber wrongSet refuse _⨾_
-form-words n r a b =
-    ap (λ t. refuse (not (eqb r 0)) 12 ⨾ (refuse t 14 ⨾ refuse (eqb b 0 || leb (2 ^ n) b) 15)) (or-false (not (within 1 maxNumber a)))
+use Rattle.model.specs.Kinds as model
+use Rattle.model.specs.Kinds.{Kind, lastKind, uses, wrongRecorder, strayWord, wrongNumber, wrongSet, inputRefusal}
+use Rattle.model.proofs.Agreement.Tools.{true-or-false, or-left, or-right}
+use Rattle.words.specs.declared.Uses.{Uses}
+use Rattle.words.specs.Words.{useOf, usesOf}
 
 -- ## Tests of the code
 
-pub not-zero : (a : ℕ) → (a ≡ 0 → ⊥) → not (eqb a 0) ≡ true
-not-zero a ne = ap not (ne-eqb a 0 ne)
+-- a number below a range, and one that is not
+pub below : (low high x : ℕ) → x < low → ltb x low ≡ not (within low high x)
+unfolding within
+below low high x l = lt-ltb x low l ∙ sym (ap (λ t. not (t && leb x high)) (lt-leb low x l))
 
-pub is-zero : (a : ℕ) → a ≡ 0 → not (eqb a 0) ≡ false
-is-zero a e = ap not (eq-eqb a 0 e)
+pub above : (low high x : ℕ) → low ≤ x → ltb high x ≡ not (within low high x)
+unfolding within
+above low high x l =
+    ⊎-elim (λ t. le-ltb high x (leb-true x high t) ∙ sym (ap not t)) (λ f. lt-ltb high x (leb-false x high f) ∙ sym (ap not f)) (true-or-false (leb x high))
+    ∙ sym (ap (λ t. not (t && leb x high)) (le-leb low x l))
 
--- a mask that names a recorder above n
-pub names-above : (n b : ℕ) → (b / 2 ^ n ≡ 0 → ⊥) → leb (2 ^ n) b ≡ true
-names-above n b ne =
-    ⊎-elim (λ t. t) (λ f. absurd (ne (div-eq-of-lt (leb-false (2 ^ n) b f)))) (true-or-false (leb (2 ^ n) b))
+-- a mask names a recorder above n where it has a bit there
+pub names-above : (n b : ℕ) → not (eqb (b / 2 ^ n) 0) ≡ leb (2 ^ n) b
+names-above n b =
+    ⊎-elim (λ t. ap not (ne-eqb (b / 2 ^ n) 0 (λ e. some (leb-true (2 ^ n) b t) e)) ∙ sym t)
+    (λ f. ap not (eq-eqb (b / 2 ^ n) 0 (div-eq-of-lt (leb-false (2 ^ n) b f))) ∙ sym f)
+    (true-or-false (leb (2 ^ n) b))
+  where
+    some : 2 ^ n ≤ b → b / 2 ^ n ≡ 0 → ⊥
+    some l e = let lt : b < 1 * 2 ^ n = div-lt-iff-lt-mul (pow-pos n) .0 (omega arith) in omega arith
 
-pub names-within : (n b : ℕ) → b / 2 ^ n ≡ 0 → leb (2 ^ n) b ≡ false
-names-within n b e =
-    lt-leb (2 ^ n) b (let lt : b < 1 * 2 ^ n = div-lt-iff-lt-mul (pow-pos n) .0 (omega arith) in omega arith)
+-- ## The last kind
 
--- the kinds that use R alone
-usesRecorder : Kind → Bool
-usesRecorder submit = false
-usesRecorder label = true
-usesRecorder sendEntry = true
-usesRecorder sendSummary = true
-usesRecorder form = false
-usesRecorder enter = false
-usesRecorder order = false
-usesRecorder receive = true
-usesRecorder notice = true
-usesRecorder confirm = true
-usesRecorder deliver = true
+-- k is none of 1 to n: what the last arm of a `match` over the kinds knows
+abbrev pub Passed : ℕ → ℕ → Type 0
+Passed k zero = Unit {0}
+Passed k (suc n) = Passed k n × (k ≡ suc n → ⊥)
 
-uses-recorder : (κ : Kind) → usesRecorder κ ≡ true → uses κ ≡ uses label
-unfolding usesRecorder uses
-uses-recorder submit t = absurd (false≢true t)
-uses-recorder label t = refl
-uses-recorder sendEntry t = refl
-uses-recorder sendSummary t = refl
-uses-recorder form t = absurd (false≢true t)
-uses-recorder enter t = absurd (false≢true t)
-uses-recorder order t = absurd (false≢true t)
-uses-recorder receive t = refl
-uses-recorder notice t = refl
-uses-recorder confirm t = refl
-uses-recorder deliver t = refl
+past : (n k : ℕ) → 1 ≤ k → Passed k n → n < k
+past zero k low p = omega arith
+past (suc n) k low p = omega (arith, past n k low (p .0), p .1)
 
-tested : ℕ → Bool
-tested k = eqb k 5 || (eqb k 1 || (eqb k 6 || (eqb k 7 || usesRecorder (kindAt k))))
+pub last-left : (k : ℕ) → 1 ≤ k → k ≤ lastKind → Passed k (lastKind - 1) → k ≡ lastKind
+last-left k low high p = omega (arith, past (lastKind - 1) k low p)
 
-table : filter tested (recorders 11) ≡ recorders 11
-unfolding filter recorders tested kindAt kindOf kinds usesRecorder
-table = refl
+-- ## The four tests in their order
 
-skip : (t u : Bool) → t ≡ false → (t || u) ≡ true → u ≡ true
-skip true u f o = absurd (true≢false f)
-skip false u f o = o
+rising : Bool → Bool → Bool → Bool → ℕ
+rising p q s t = refuse p 12 ⨾ refuse q 13 ⨾ refuse s 14 ⨾ refuse t 15
 
--- all kinds but 1, 5, 6 and 7
-pub recorder-kinds : (k : ℕ) → 1 ≤ k → k ≤ 11 → (k ≡ 5 → ⊥) → (k ≡ 1 → ⊥) → (k ≡ 6 → ⊥) → (k ≡ 7 → ⊥)
-    → uses (kindAt k) ≡ uses label
-unfolding tested
-recorder-kinds k low high five one six seven =
-    let told = all-recorders tested 11 table k low high in
-    uses-recorder (kindAt k)
-    (skip (eqb k 7) _ (ne-eqb k 7 seven) (skip (eqb k 6) _ (ne-eqb k 6 six) (skip (eqb k 1) _ (ne-eqb k 1 one) (skip (eqb k 5) _ (ne-eqb k 5 five) told))))
+either : (s t : Bool) → (s ≡ true) ⊎ (t ≡ true) → true ≡ (s || t)
+either s t o = sym (⊎-elim (or-left s t) (or-right s t) o)
+
+neither : (s t : Bool) → (s ≡ false) × (t ≡ false) → false ≡ (s || t)
+neither s t o = sym (ap₂ (λ x y. x || y) (o .0) (o .1))
+
+module _ (n : ℕ) (κ : Kind) (r a b : ℕ) (u : Uses) (row : usesOf u ≡ uses κ) where
+  -- a test of A and one of B
+  abbrev Some : (model.Use → ℕ → Bool) → Type 0
+  Some t = (t (useOf (u .1)) a ≡ true) ⊎ (t (useOf (u .2)) b ≡ true)
+
+  abbrev None : (model.Use → ℕ → Bool) → Type 0
+  None t = (t (useOf (u .1)) a ≡ false) × (t (useOf (u .2)) b ≡ false)
+
+  either-word : (t : model.Use → ℕ → Bool) → model.Uses → Bool
+  either-word t v = t (v .a) a || t (v .b) b
+
+  by-row : rising (wrongRecorder n (useOf (u .0)) r) (either-word strayWord (usesOf u)) (either-word wrongNumber (usesOf u)) (either-word (wrongSet n) (usesOf u))
+      ≡ inputRefusal n κ r a b
+  unfolding inputRefusal rising usesOf either-word
+  by-row = ap (λ (v : model.Uses). rising (wrongRecorder n (v .r) r) (either-word strayWord v) (either-word wrongNumber v) (either-word (wrongSet n) v)) row
+
+  some : (t : model.Use → ℕ → Bool) → Some t → true ≡ either-word t (usesOf u)
+  unfolding either-word usesOf
+  some t o = either (t (useOf (u .1)) a) (t (useOf (u .2)) b) o
+
+  none : (t : model.Use → ℕ → Bool) → None t → false ≡ either-word t (usesOf u)
+  unfolding either-word usesOf
+  none t o = neither (t (useOf (u .1)) a) (t (useOf (u .2)) b) o
+
+  pub is-12 : wrongRecorder n (useOf (u .0)) r ≡ true → 12 ≡ inputRefusal n κ r a b
+  unfolding rising refuse _⨾_
+  is-12 e = (λ i. rising (sym e i) (either-word strayWord (usesOf u)) (either-word wrongNumber (usesOf u)) (either-word (wrongSet n) (usesOf u))) ∙ by-row
+
+  pub is-13 : wrongRecorder n (useOf (u .0)) r ≡ false → Some strayWord → 13 ≡ inputRefusal n κ r a b
+  unfolding rising refuse _⨾_
+  is-13 e f = (λ i. rising (sym e i) (some strayWord f i) (either-word wrongNumber (usesOf u)) (either-word (wrongSet n) (usesOf u))) ∙ by-row
+
+  pub is-14 : wrongRecorder n (useOf (u .0)) r ≡ false → None strayWord → Some wrongNumber → 14 ≡ inputRefusal n κ r a b
+  unfolding rising refuse _⨾_
+  is-14 e f g = (λ i. rising (sym e i) (none strayWord f i) (some wrongNumber g i) (either-word (wrongSet n) (usesOf u))) ∙ by-row
+
+  pub is-15 : wrongRecorder n (useOf (u .0)) r ≡ false → None strayWord → None wrongNumber → Some (wrongSet n) → 15 ≡ inputRefusal n κ r a b
+  unfolding rising refuse _⨾_
+  is-15 e f g h = (λ i. rising (sym e i) (none strayWord f i) (none wrongNumber g i) (some (wrongSet n) h i)) ∙ by-row
+
+  pub is-none : wrongRecorder n (useOf (u .0)) r ≡ false → None strayWord → None wrongNumber → None (wrongSet n) → 0 ≡ inputRefusal n κ r a b
+  unfolding rising refuse _⨾_
+  is-none e f g h = (λ i. rising (sym e i) (none strayWord f i) (none wrongNumber g i) (none (wrongSet n) h i)) ∙ by-row
