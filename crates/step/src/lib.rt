@@ -43,6 +43,7 @@ fn act(b: &mut [u8], k: u32, r: u32, a: u32, d: u32) -> Answer
         kinds::RECEIVE => receive(b, r),
         kinds::NOTICE => notice(b, r),
         kinds::CONFIRM => confirm(b, r),
+        // kinds::DELIVER
         _ => deliver(b, r),
     }
 }
@@ -54,7 +55,11 @@ fn kind_refusal(k: u32) -> u32
     if k < 1 {
         return refusals::KIND;
     }
-    if kinds::LAST_KIND < k { refusals::KIND } else { 0 }
+    if kinds::LAST_KIND < k {
+        refusals::KIND
+    } else {
+        0
+    }
 }
 
 // 31: "the bytes are no hall's stored form".

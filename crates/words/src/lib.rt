@@ -2,6 +2,7 @@
 // of this repository: a `requires` is met by each caller's proof.
 ghost use mathlib.Core.Path.{_≡_};
 ghost use Prim.Native.Nat.{_≤_};
+ghost use Rattle.model.specs.Base.{refuse, _⨾_};
 ghost use Rattle.model.specs.Kinds.{lastKind, uses, wrongRecorder, strayWord, wrongNumber, wrongSet, inputRefusal};
 ghost use Rattle.words.specs.Words.{kindAt, useOf, usesOf};
 use model::kinds;
@@ -20,8 +21,8 @@ pub enum Use {
 // How a kind uses R, A and B.
 pub struct Uses(pub Use, pub Use, pub Use);
 
-// The table of kinds, as the model has it. "Form view A with set B (R is 0)."
-pub fn uses_of(k: u32) -> Uses
+// The table of kinds, the model's row by row. "Form view A with set B (R is 0)."
+fn uses_of(k: u32) -> Uses
     requires { ⌜ 1 ≤ k ⌝ }
     requires { ⌜ k ≤ lastKind ⌝ }
     ensures { λ x. ⌜ usesOf x ≡ uses (kindAt k) ⌝ }
@@ -37,6 +38,7 @@ pub fn uses_of(k: u32) -> Uses
         kinds::RECEIVE => Uses(Use::Recorder, Use::Unused, Use::Unused),
         kinds::NOTICE => Uses(Use::Recorder, Use::Unused, Use::Unused),
         kinds::CONFIRM => Uses(Use::Recorder, Use::Unused, Use::Unused),
+        // kinds::DELIVER
         _ => Uses(Use::Recorder, Use::Unused, Use::Unused),
     }
 }
@@ -83,7 +85,21 @@ fn wrong_set(n: u32, u: Use, w: u32) -> bool
     }
 }
 
-// 12 to 15 of a kind, rising, in a hall of n recorders: the tests of the words as the kind uses them.
+// The number of a refusal whose condition holds, 0 for none.
+fn refusal(t: bool, number: u32) -> u32
+    ensures { λ x. ⌜ x ≡ refuse t number ⌝ }
+{
+    if t { number } else { 0 }
+}
+
+// The first of two refusals, 0 for none.
+fn first(a: u32, b: u32) -> u32
+    ensures { λ x. ⌜ x ≡ a ⨾ b ⌝ }
+{
+    if a == 0 { b } else { a }
+}
+
+// 12 to 15 of a kind, rising, in a hall of n recorders: each word is tested as the kind uses it.
 pub fn input_refusal(n: u32, k: u32, r: u32, a: u32, b: u32) -> u32
     requires { ⌜ n ≤ 8 ⌝ }
     requires { ⌜ 1 ≤ k ⌝ }
@@ -91,17 +107,12 @@ pub fn input_refusal(n: u32, k: u32, r: u32, a: u32, b: u32) -> u32
     ensures { λ x. ⌜ x ≡ inputRefusal n (kindAt k) r a b ⌝ }
 {
     let Uses(of_r, of_a, of_b) = uses_of(k);
-    if wrong_recorder(n, of_r, r) {
-        return refusals::RECORDER;
-    }
-    if stray_word(of_a, a) || stray_word(of_b, b) {
-        return refusals::UNUSED;
-    }
-    if wrong_number(of_a, a) || wrong_number(of_b, b) {
-        return refusals::VIEW_NUMBER;
-    }
-    if wrong_set(n, of_a, a) || wrong_set(n, of_b, b) {
-        return refusals::SET;
-    }
-    0
+    let recorder = refusal(wrong_recorder(n, of_r, r), refusals::RECORDER);
+    let stray = refusal(stray_word(of_a, a) | stray_word(of_b, b), refusals::UNUSED);
+    let number = refusal(
+        wrong_number(of_a, a) | wrong_number(of_b, b),
+        refusals::VIEW_NUMBER,
+    );
+    let set = refusal(wrong_set(n, of_a, a) | wrong_set(n, of_b, b), refusals::SET);
+    first(recorder, first(stray, first(number, set)))
 }

@@ -2,8 +2,8 @@
 use borrow.Author.Needs.{needs}
 use denote.Ref.{now}
 use Rattle.model.specs.Kinds.{kinds, lastKind, kindOf, uses}
+use Rattle.model.proofs.KindLaws.{last-left}
 use Rattle.words.specs.Words.{kindAt}
-use Rattle.words.proofs.WordsLaws.{last-left}
 use Rattle.step.proofs.Dispatch.{asUsed}
 use Rattle.step.proofs.Dispatch as turn
 use Rattle.step.proofs.act.Statement.{statement}

@@ -1,7 +1,8 @@
+-- `words::uses_of` meets its contract. Assumes nothing.
 use mathlib.Core.Path.{sym, ap}
 use Rattle.model.specs.Kinds.{lastKind, kinds, kindOf, uses}
+use Rattle.model.proofs.KindLaws.{last-left}
 use Rattle.words.specs.Words.{kindAt, useOf, usesOf}
-use Rattle.words.proofs.WordsLaws.{last-left}
 use Rattle.words.proofs.uses_of.Statement.{statement}
 use Rattle.words.proofs.uses_of.Tie as tie
 
