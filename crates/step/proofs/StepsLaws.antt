@@ -2,17 +2,15 @@
 use Prim.Native.Nat.{ℕ, _≤_, _<_}
 use native.Mathlib.Omega.{arith}
 use mathlib.Core.Path.{_≡_, refl, sym, ap, subst, _∙_}
-use mathlib.Core.Bool.{Bool, true, false, false≢true}
+use mathlib.Core.Bool.{Bool, true, false}
 use mathlib.Core.List.{List}
 use lib.Dec.{eqb}
-use lib.ListN.{List·getD-eq-default}
 use borrow.Author.Tests.{eq-eqb, ne-eqb, eqb-true}
 use Rattle.model.specs.Base.{_⨾_}
 use Rattle.model.proofs.Agreement.Chains.{chain-none}
 use Rattle.codec.proofs.TableLaws.{by-cases}
-use Rattle.quorum.specs.Sets.{recorders, filter}
-use Rattle.quorum.proofs.SetLaws.{all-recorders}
-use Rattle.model.specs.Kinds.{Kind, KindWord, kind, noKind, kinds, kindOf, inputRefusal}
+use Rattle.model.specs.Kinds.{Kind, KindWord, kind, noKind, kinds, lastKind, kindOf, inputRefusal}
+use Rattle.model.proofs.KindLaws.{names-kind, past-last}
 use Rattle.model.specs.Answers as model
 use Rattle.model.specs.Call.{Words, wordsOf}
 use Rattle.store.specs.StoredForm.{hallOf, isStored}
@@ -28,24 +26,11 @@ use Rattle.step.specs.Numbers.{kindNumber, bytesNumber}
 
 -- ## The kind's word
 
-isKind : KindWord → Bool
-isKind (kind κ) = true
-isKind noKind = false
-
-kind-there : filter (λ k. isKind (kindOf k)) (recorders 11) ≡ recorders 11
-unfolding filter recorders kindOf kinds isKind
-kind-there = refl
-
-kind-at : (k : ℕ) → 1 ≤ k → k ≤ 11 → kindOf k ≡ kind (kindAt k)
-unfolding kindAt isKind
-kind-at k low high = go (kindOf k) (all-recorders (λ j. isKind (kindOf j)) 11 kind-there k low high)
-  where
-    or-submit : KindWord → Kind
-    or-submit x = elim x [ kind κ ↦ κ | noKind ↦ Kind.submit ]
-
-    go : (x : KindWord) → isKind x ≡ true → x ≡ kind (or-submit x)
-    go (kind κ) t = refl
-    go noKind t = absurd (false≢true t)
+kind-at : (k : ℕ) → 1 ≤ k → k ≤ lastKind → kindOf k ≡ kind (kindAt k)
+unfolding kindAt
+kind-at k low high =
+    let n = names-kind k low high in
+    n .1 ∙ sym (ap (λ w. kind (elim w [ kind κ ↦ κ | noKind ↦ Kind.submit ])) (n .1))
 
 number-of : KindWord → ℕ
 number-of w = elim w [ kind κ ↦ 0 | noKind ↦ 11 ]
@@ -54,11 +39,11 @@ pub number-low : (k : ℕ) → k < 1 → 11 ≡ kindNumber k
 unfolding kindNumber kindOf kinds number-of
 number-low k l = let z : k ≡ 0 = omega arith in sym (ap (λ j. number-of (kindOf j)) z)
 
-pub number-high : (k : ℕ) → 11 < k → 11 ≡ kindNumber k
-unfolding kindNumber kindOf kinds number-of
-number-high k l = sym (ap number-of (List·getD-eq-default kinds noKind {n = k} (omega arith)))
+pub number-high : (k : ℕ) → lastKind < k → 11 ≡ kindNumber k
+unfolding kindNumber number-of
+number-high k l = sym (ap number-of (past-last k l))
 
-pub number-kind : (k : ℕ) → 1 ≤ k → k ≤ 11 → 0 ≡ kindNumber k
+pub number-kind : (k : ℕ) → 1 ≤ k → k ≤ lastKind → 0 ≡ kindNumber k
 unfolding kindNumber number-of
 number-kind k low high = sym (ap number-of (kind-at k low high))
 
@@ -70,11 +55,11 @@ pub bytes-broken : (b : List ℕ) → isStored b ≡ false → 31 ≡ bytesNumbe
 unfolding bytesNumber
 bytes-broken b s = rw (s, bytesNumber) refl
 
--- no 11: the kind is 1 to 11
-pub kind-range : (k : ℕ) → kindNumber k ≡ 0 → (1 ≤ k) × (k ≤ 11)
+-- no 11: the kind is 1 to the last
+pub kind-range : (k : ℕ) → kindNumber k ≡ 0 → (1 ≤ k) × (k ≤ lastKind)
 kind-range k e =
     let low : k < 1 → ⊥ = λ l. let z : _≡_ {A = ℕ} 11 0 = number-low k l ∙ e in omega arith in
-    let high : 11 < k → ⊥ = λ l. let z : _≡_ {A = ℕ} 11 0 = number-high k l ∙ e in omega arith in
+    let high : lastKind < k → ⊥ = λ l. let z : _≡_ {A = ℕ} 11 0 = number-high k l ∙ e in omega arith in
     (omega arith, omega arith)
 
 -- no 31: the bytes hold a hall
@@ -105,7 +90,7 @@ module _ (b : List ℕ) (k r a d : ℕ) where
       go (kind κ) f = absurd (ne (e ∙ ap number-of f))
       go noKind f = subst (λ m. Steps b k r a d (Answer.Refused m) b) (sym (e ∙ ap number-of f)) (no-kind f)
 
-  module _ (low : 1 ≤ k) (high : k ≤ 11) where
+  module _ (low : 1 ≤ k) (high : k ≤ lastKind) where
     -- 31: "the bytes are no hall's stored form"
     not-a-hall : isStored b ≡ false → Steps b k r a d (Answer.Refused 31) b
     unfolding meaning by-kind

@@ -3,6 +3,7 @@ ghost use mathlib.Core.Path.{_≡_};
 ghost use mathlib.Core.Bool.{true};
 ghost use Prim.Native.Nat.{_≤_};
 ghost use Rattle.model.specs.Base.{_⨾_};
+ghost use Rattle.model.specs.Kinds.{lastKind};
 ghost use Rattle.store.specs.StoredForm.{isStored};
 ghost use Rattle.words.specs.Words.{kindAt};
 ghost use Rattle.hall.specs.Acts.{Judged, Does};
@@ -14,6 +15,8 @@ use client::deliver;
 use client::label;
 use client::submit;
 use hall::size;
+use model::kinds;
+use model::refusals;
 use noticing::notice;
 use receiving::receive;
 use sending::send_entry;
@@ -24,66 +27,25 @@ use views::form;
 use views::place_message;
 use words::input_refusal;
 
-// Kinds 1 to 4: submit, label, send an entry, send the summary.
-fn act_low(b: &mut [u8], k: u32, r: u32, a: u32, d: u32) -> Answer
-    requires { ⌜ Judged (now b) (kindAt k) r a d × (1 ≤ k) × (k ≤ 4) ⌝ }
-    ensures { λ x. ⌜ Does (now (b .entry)) (kindAt k) r a d x (now (b .exit)) ⌝ }
-{
-    if k == 1 {
-        return submit(b, r, a);
-    }
-    if k == 2 {
-        return label(b, r);
-    }
-    if k == 3 {
-        return send_entry(b, r);
-    }
-    send_summary(b, r)
-}
-
-// Kinds 5 to 8: form a view, enter one, place a message, receive one.
-fn act_middle(b: &mut [u8], k: u32, r: u32, a: u32, d: u32) -> Answer
-    requires { ⌜ Judged (now b) (kindAt k) r a d × (5 ≤ k) × (k ≤ 8) ⌝ }
-    ensures { λ x. ⌜ Does (now (b .entry)) (kindAt k) r a d x (now (b .exit)) ⌝ }
-{
-    if k == 5 {
-        return form(b, a, d);
-    }
-    if k == 6 {
-        return enter(b, r, a);
-    }
-    if k == 7 {
-        return place_message(b, r, a);
-    }
-    receive(b, r)
-}
-
-// Kinds 9 to 11: notice, confirm, deliver.
-fn act_high(b: &mut [u8], k: u32, r: u32, a: u32, d: u32) -> Answer
-    requires { ⌜ Judged (now b) (kindAt k) r a d × (9 ≤ k) × (k ≤ 11) ⌝ }
-    ensures { λ x. ⌜ Does (now (b .entry)) (kindAt k) r a d x (now (b .exit)) ⌝ }
-{
-    if k == 9 {
-        return notice(b, r);
-    }
-    if k == 10 {
-        return confirm(b, r);
-    }
-    deliver(b, r)
-}
-
 // The action of kind k, its words judged.
 fn act(b: &mut [u8], k: u32, r: u32, a: u32, d: u32) -> Answer
-    requires { ⌜ Judged (now b) (kindAt k) r a d × (1 ≤ k) × (k ≤ 11) ⌝ }
+    requires { ⌜ Judged (now b) (kindAt k) r a d × (1 ≤ k) × (k ≤ lastKind) ⌝ }
     ensures { λ x. ⌜ Does (now (b .entry)) (kindAt k) r a d x (now (b .exit)) ⌝ }
 {
-    if k < 5 {
-        return act_low(b, k, r, a, d);
+    match k {
+        kinds::SUBMIT => submit(b, r, a),
+        kinds::LABEL => label(b, r),
+        kinds::SEND_ENTRY => send_entry(b, r),
+        kinds::SEND_SUMMARY => send_summary(b, r),
+        kinds::FORM => form(b, a, d),
+        kinds::ENTER => enter(b, r, a),
+        kinds::ORDER => place_message(b, r, a),
+        kinds::RECEIVE => receive(b, r),
+        kinds::NOTICE => notice(b, r),
+        kinds::CONFIRM => confirm(b, r),
+        // kinds::DELIVER
+        _ => deliver(b, r),
     }
-    if k < 9 {
-        return act_middle(b, k, r, a, d);
-    }
-    act_high(b, k, r, a, d)
 }
 
 // 11: "K is not 1 to 11".
@@ -91,16 +53,20 @@ fn kind_refusal(k: u32) -> u32
     ensures { λ n. ⌜ n ≡ kindNumber k ⌝ }
 {
     if k < 1 {
-        return 11;
+        return refusals::KIND;
     }
-    if 11 < k { 11 } else { 0 }
+    if kinds::LAST_KIND < k {
+        refusals::KIND
+    } else {
+        0
+    }
 }
 
 // 31: "the bytes are no hall's stored form".
 pub fn bytes_refusal(b: &[u8]) -> u32
     ensures { λ n. ⌜ n ≡ bytesNumber (now (b .entry)) ⌝ }
 {
-    if is_hall(b) { 0 } else { 31 }
+    if is_hall(b) { 0 } else { refusals::BYTES }
 }
 
 // The first of two refusals, 0 for none.

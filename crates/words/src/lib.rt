@@ -1,65 +1,95 @@
-// The refusals 12 to 15, "because of the input". These functions are for the crates of this repository: a `requires` is met
-// by each caller's proof.
+// The table of kinds, and the refusals 12 to 15, "because of the input", by that table. These functions are for the crates
+// of this repository: a `requires` is met by each caller's proof.
 ghost use mathlib.Core.Path.{_≡_};
-ghost use mathlib.Core.Bool.{not, _||_};
-ghost use Prim.Native.Nat.{_^_, _≤_};
-ghost use lib.Dec.{eqb, leb};
-ghost use Rattle.model.specs.Base.{within, refuse, _⨾_};
-ghost use Rattle.model.specs.Hall.{maxNumber};
-ghost use Rattle.model.specs.Kinds.{inputRefusal};
-ghost use Rattle.words.specs.Words.{kindAt};
+ghost use Prim.Native.Nat.{_≤_};
+ghost use Rattle.model.specs.Base.{refuse, _⨾_};
+ghost use Rattle.model.specs.Kinds.{lastKind, uses, wrongRecorder, strayWord, wrongNumber, wrongSet, inputRefusal};
+ghost use Rattle.words.specs.Words.{kindAt, useOf, usesOf};
+use model::kinds;
+use model::limits::MAX_NUMBER;
+use model::refusals;
 
-// 12: "R is not 1 to N"
-fn recorder_refusal(n: u32, r: u32) -> u32
-    ensures { λ x. ⌜ x ≡ refuse (not (within 1 n r)) 12 ⌝ }
+// What a kind uses a word for: nothing (it is 0), any word, a recorder 1 to N, a view number, the set of a new view.
+pub enum Use {
+    Unused,
+    Word,
+    Recorder,
+    Number,
+    Set,
+}
+
+// How a kind uses R, A and B.
+pub struct Uses(pub Use, pub Use, pub Use);
+
+// The table of kinds, the model's row by row. "Form view A with set B (R is 0)."
+fn uses_of(k: u32) -> Uses
+    requires { ⌜ 1 ≤ k ⌝ }
+    requires { ⌜ k ≤ lastKind ⌝ }
+    ensures { λ x. ⌜ usesOf x ≡ uses (kindAt k) ⌝ }
 {
-    if r < 1 {
-        return 12;
+    match k {
+        kinds::SUBMIT => Uses(Use::Recorder, Use::Word, Use::Unused),
+        kinds::LABEL => Uses(Use::Recorder, Use::Unused, Use::Unused),
+        kinds::SEND_ENTRY => Uses(Use::Recorder, Use::Unused, Use::Unused),
+        kinds::SEND_SUMMARY => Uses(Use::Recorder, Use::Unused, Use::Unused),
+        kinds::FORM => Uses(Use::Unused, Use::Number, Use::Set),
+        kinds::ENTER => Uses(Use::Recorder, Use::Number, Use::Unused),
+        kinds::ORDER => Uses(Use::Recorder, Use::Number, Use::Unused),
+        kinds::RECEIVE => Uses(Use::Recorder, Use::Unused, Use::Unused),
+        kinds::NOTICE => Uses(Use::Recorder, Use::Unused, Use::Unused),
+        kinds::CONFIRM => Uses(Use::Recorder, Use::Unused, Use::Unused),
+        // kinds::DELIVER
+        _ => Uses(Use::Recorder, Use::Unused, Use::Unused),
     }
-    if n < r {
-        return 12;
+}
+
+// 12: "R is not 1 to N where used, or not 0 where unused"
+fn wrong_recorder(n: u32, u: Use, w: u32) -> bool
+    ensures { λ x. ⌜ x ≡ wrongRecorder n (useOf u) w ⌝ }
+{
+    match u {
+        Use::Unused => w != 0,
+        Use::Recorder => w < 1 || n < w,
+        _ => false,
     }
-    0
 }
 
 // 13: "an unused A or B is not 0"
-fn stray_refusal(a: u32, b: u32) -> u32
-    ensures { λ x. ⌜ x ≡ refuse (not (eqb a 0) || not (eqb b 0)) 13 ⌝ }
+fn stray_word(u: Use, w: u32) -> bool
+    ensures { λ x. ⌜ x ≡ strayWord (useOf u) w ⌝ }
 {
-    if a != 0 {
-        return 13;
+    match u {
+        Use::Unused => w != 0,
+        _ => false,
     }
-    if b != 0 {
-        return 13;
-    }
-    0
 }
 
 // 14: "a view number is not 1 to 255"
-fn number_refusal(a: u32) -> u32
-    ensures { λ x. ⌜ x ≡ refuse (not (within 1 maxNumber a)) 14 ⌝ }
+fn wrong_number(u: Use, w: u32) -> bool
+    ensures { λ x. ⌜ x ≡ wrongNumber (useOf u) w ⌝ }
 {
-    if a < 1 {
-        return 14;
+    match u {
+        Use::Number => w < 1 || MAX_NUMBER < w,
+        _ => false,
     }
-    if 255 < a {
-        return 14;
-    }
-    0
 }
 
 // 15: "the set of a new view is empty or names a recorder above N"
-fn set_refusal(n: u32, b: u32) -> u32
+fn wrong_set(n: u32, u: Use, w: u32) -> bool
     requires { ⌜ n ≤ 8 ⌝ }
-    ensures { λ x. ⌜ x ≡ refuse (eqb b 0 || leb (2 ^ n) b) 15 ⌝ }
+    ensures { λ x. ⌜ x ≡ wrongSet n (useOf u) w ⌝ }
 {
-    if b == 0 {
-        return 15;
+    match u {
+        Use::Set => w == 0 || (w >> n) != 0,
+        _ => false,
     }
-    if (b >> n) != 0 {
-        return 15;
-    }
-    0
+}
+
+// The number of a refusal whose condition holds, 0 for none.
+fn refusal(t: bool, number: u32) -> u32
+    ensures { λ x. ⌜ x ≡ refuse t number ⌝ }
+{
+    if t { number } else { 0 }
 }
 
 // The first of two refusals, 0 for none.
@@ -69,33 +99,20 @@ fn first(a: u32, b: u32) -> u32
     if a == 0 { b } else { a }
 }
 
-// 12 to 15 of a kind, rising, in a hall of n recorders: for each kind the tests that the model's table of kinds asks for.
+// 12 to 15 of a kind, rising, in a hall of n recorders: each word is tested as the kind uses it.
 pub fn input_refusal(n: u32, k: u32, r: u32, a: u32, b: u32) -> u32
     requires { ⌜ n ≤ 8 ⌝ }
     requires { ⌜ 1 ≤ k ⌝ }
-    requires { ⌜ k ≤ 11 ⌝ }
+    requires { ⌜ k ≤ lastKind ⌝ }
     ensures { λ x. ⌜ x ≡ inputRefusal n (kindAt k) r a b ⌝ }
 {
-    if k == 5 {
-        let rest = first(number_refusal(a), set_refusal(n, b));
-        return first(if_used(r), rest);
-    }
-    let here = recorder_refusal(n, r);
-    if k == 1 {
-        return first(here, stray_refusal(0, b));
-    }
-    if k == 6 {
-        return first(here, first(stray_refusal(0, b), number_refusal(a)));
-    }
-    if k == 7 {
-        return first(here, first(stray_refusal(0, b), number_refusal(a)));
-    }
-    first(here, stray_refusal(a, b))
-}
-
-// 12 of a kind that does not use R: R is "not 0 where unused"
-fn if_used(r: u32) -> u32
-    ensures { λ x. ⌜ x ≡ refuse (not (eqb r 0)) 12 ⌝ }
-{
-    if r != 0 { 12 } else { 0 }
+    let Uses(of_r, of_a, of_b) = uses_of(k);
+    let recorder = refusal(wrong_recorder(n, of_r, r), refusals::RECORDER);
+    let stray = refusal(stray_word(of_a, a) | stray_word(of_b, b), refusals::UNUSED);
+    let number = refusal(
+        wrong_number(of_a, a) | wrong_number(of_b, b),
+        refusals::VIEW_NUMBER,
+    );
+    let set = refusal(wrong_set(n, of_a, a) | wrong_set(n, of_b, b), refusals::SET);
+    first(recorder, first(stray, first(number, set)))
 }

@@ -1,14 +1,16 @@
-use Rattle.words.proofs.WordsLaws.{first-none, first-some}
+-- `words::first` meets its contract. Assumes nothing.
+use borrow.Author.Tests.{eq-eqb, ne-eqb}
+use Rattle.model.specs.Base.{_⨾_}
 use Rattle.words.proofs.first.Statement.{statement}
 use Rattle.words.proofs.first.Tie as tie
-use Rattle.words.proofs.first.Reads as reads
-use Rattle.words.proofs.first.Lts as lts
 
 returns : tie.Need-returns
-returns c = first-none _ _ (c .if1 .taken)
+unfolding _⨾_
+returns c = rw (eq-eqb _ 0 (c .if1 .taken), _⨾_)
 
 returns-2 : tie.Need-returns-2
-returns-2 c = first-some _ _ (c .if1 .left)
+unfolding _⨾_
+returns-2 c = rw (ne-eqb _ 0 (c .if1 .left), _⨾_)
 
 pub first-spec : {M : Type 1} → statement M
 first-spec = tie.close (tie.spec returns returns-2)
