@@ -25,7 +25,7 @@ returns c =
     below 1 maxNumber (a .w) (c .if1 .taken) ∙ sym (ap (λ u. wrongNumber (useOf u) (a .w)) (c .before .enum-told .given .1))
 
 returns-2 : tie.Need-returns-2
-unfolding wrongNumber useOf maxNumber
+unfolding wrongNumber useOf
 returns-2 c =
     let a = c .before .before .before .args in
     above 1 maxNumber (a .w) (c .if1 .left) ∙ sym (ap (λ u. wrongNumber (useOf u) (a .w)) (c .before .enum-told .given .1))
