@@ -1,2 +1,4 @@
 pub mod Lists
 pub mod Update
+pub mod Chains
+pub mod Numbers

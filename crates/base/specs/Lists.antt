@@ -1,9 +1,11 @@
 -- Lists: which numbers they have, which of them pass a test, and what each element has.
 -- Assumes nothing.
-use Prim.Native.Nat.{ℕ}
-use mathlib.Core.Bool.{Bool, true, false}
-use mathlib.Core.List.{List, [], _∷_}
-use lib.Dec.{eqb}
+use Prim.Native.Nat.{ℕ, _+_, _-_, max}
+use mathlib.Core.Bool.{Bool, true, false, _&&_, _||_}
+use mathlib.Core.List.{List, [], _∷_, _++_}
+use lib.Dec.{eqb, ltb}
+use lib.ListN.{getD}
+use mathlib.Core.Path.{_≡_}
 
 -- is x listed in xs?
 unfoldable pub has : List ℕ → ℕ → Bool
@@ -19,3 +21,57 @@ filter p (x ∷ xs) = elim (p x) [ true ↦ x ∷ filter p xs | false ↦ filter
 abbrev pub Each : {A : Type 0} → (A → Type 0) → List A → Type 0
 Each P [] = Unit {0}
 Each P (x ∷ xs) = P x × Each P xs
+
+-- does p hold for each element of xs?
+unfoldable pub all : (ℕ → Bool) → List ℕ → Bool
+all p [] = true
+all p (x ∷ xs) = p x && all p xs
+
+-- does p hold for some element of xs?
+unfoldable pub any : (ℕ → Bool) → List ℕ → Bool
+any p [] = false
+any p (x ∷ xs) = p x || any p xs
+
+-- how many elements of xs have p
+unfoldable pub countOf : (ℕ → Bool) → List ℕ → ℕ
+countOf p [] = 0
+countOf p (x ∷ xs) = elim (p x) [ true ↦ 1 | false ↦ 0 ] + countOf p xs
+
+-- the greatest f x for x in xs, 0 if there is none
+unfoldable pub greatest : (ℕ → ℕ) → List ℕ → ℕ
+greatest f [] = 0
+greatest f (x ∷ xs) = max (f x) (greatest f xs)
+
+-- the element at place k, places counted from 1; d past the end
+unfoldable pub place : {A : Type 0} → List A → ℕ → A → A
+place xs k d = getD xs (k - 1) d
+
+-- the list without its first element
+unfoldable pub rest : {A : Type 0} → List A → List A
+rest [] = []
+rest (x ∷ xs) = xs
+
+-- is the list empty?
+unfoldable pub isEmpty : {A : Type 0} → List A → Bool
+isEmpty [] = true
+isEmpty (x ∷ xs) = false
+
+-- does xs rise strictly, with every element above a?
+unfoldable pub rising : ℕ → List ℕ → Bool
+rising a [] = true
+rising a (x ∷ xs) = ltb a x && rising x xs
+
+-- 1 for true, 0 for false
+abbrev pub bit : Bool → ℕ
+bit true = 1
+bit false = 0
+
+-- how often x is listed in xs
+unfoldable pub count : List ℕ → ℕ → ℕ
+count [] x = 0
+count (y ∷ ys) x = bit (eqb x y) + count ys x
+
+-- "One list begins another if it equals the other's first places": the other is that list and something more
+pub record Begins {A : Type 0} (a b : List A) : Type 0 where
+  pub more : List A
+  pub joins : b ≡ a ++ more

@@ -14,7 +14,7 @@ use borrow.Author.Tests.{eqb-true, eqb-false, eq-eqb, ne-eqb, ltb-true, ltb-fals
 use Rattle.codec.specs.Bytes.{part, zeros}
 use Rattle.codec.specs.Number.{digits, value}
 use Rattle.codec.proofs.NumberLaws.{value-digits}
-use Rattle.codec.proofs.TableLaws.{by-cases}
+use Rattle.base.proofs.Bools.{by-cases, and-both, and-true}
 use Rattle.model.specs.Hall.{Entries, Hall}
 use Rattle.model.specs.Answers.{Answer, from, Plain, plain, accepted}
 use Rattle.model.specs.Refusals.{orderAt}
@@ -22,8 +22,7 @@ use Rattle.model.specs.Opening.{Opening}
 use Rattle.model.specs.Call.{Words, WordsIn, hl3, step}
 use Rattle.model.specs.Run.{accepts}
 use Rattle.model.specs.Agreed.{Agreed}
-use Rattle.model.proofs.Agreement.Accepted.{accepts-deliver}
-use Rattle.model.proofs.Agreement.Tools.{and-both, and-true}
+use Rattle.model.proofs.Accepting.Accepted.{accepts-deliver}
 use Rattle.store.specs.Valid.{EntriesIn, InRange, ValidHall}
 use Rattle.store.specs.StoredForm.{stored}
 use Rattle.calls.specs.Calls.{stepOn, openOn, runOn}

@@ -11,7 +11,7 @@ use Rattle.codec.specs.Form.{mapped, renamed, guarded}
 use Rattle.codec.specs.Number.{value, number}
 use Rattle.codec.specs.Pair.{given}
 use Rattle.codec.specs.Slice.{valueOf}
-use Rattle.codec.proofs.TableLaws.{by-cases}
+use Rattle.base.proofs.Bools.{by-cases}
 use Rattle.model.specs.Kinds.{kinds, kindOf, submit}
 use Rattle.model.specs.Answers.{refused}
 use Rattle.model.specs.Call.{wordsOf}

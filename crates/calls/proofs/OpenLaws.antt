@@ -5,9 +5,9 @@ use mathlib.Core.Bool.{Bool, true, false}
 use mathlib.Core.List.{List}
 use lib.Dec.{eqb}
 use borrow.Author.Tests.{eqb-true, eqb-false, eq-eqb, ne-eqb}
-use Rattle.codec.proofs.TableLaws.{by-cases}
+use Rattle.base.proofs.Bools.{by-cases}
 use Rattle.model.specs.Opening.{Opening, openRefusal, opened}
-use Rattle.model.proofs.Agreement.Chains.{chain-none}
+use Rattle.base.proofs.ChainsLaws.{chain-none}
 use Rattle.calls.specs.Calls.{withHall, OpenOutcome, openNumber, openOn}
 
 module _ (b : List ℕ) (o : Opening) where

@@ -6,8 +6,8 @@ use mathlib.Core.List.{List}
 use lib.Dec.{eqb, ltb}
 use lib.ListN.{length}
 use borrow.Author.Tests.{ne-eqb, eqb-true, eqb-false, lt-ltb, le-ltb}
-use Rattle.codec.proofs.TableLaws.{by-cases}
-use Rattle.model.specs.Base.{refuse, _⨾_}
+use Rattle.base.proofs.Bools.{by-cases}
+use Rattle.base.specs.Chains.{refuse, _⨾_}
 use Rattle.model.specs.Hall.{Hall}
 use Rattle.model.specs.Kinds.{Kind, submit, label, sendEntry, sendSummary, form, enter, order, receive, notice, confirm, deliver, KindWord, kind, noKind, kindOf, inputRefusal}
 use Rattle.model.specs.Answers.{Content, Answer, message, refused, Plain, plain}

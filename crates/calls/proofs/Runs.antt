@@ -15,7 +15,7 @@ use Rattle.model.specs.Opening.{Opening, openRefusal, opened}
 use Rattle.model.specs.Call.{Words, WordsIn, hl3, step}
 use Rattle.model.specs.Run.{run, accepts, collect, firstWaiting, atReport, itemsFrom, submitted, labelledAt, delivered, deliverAnswers, History, history}
 use Rattle.model.specs.Agreed.{Agreed}
-use Rattle.model.proofs.Agreement.Tools.{and-both}
+use Rattle.base.proofs.Bools.{and-both}
 use Rattle.model.proofs.Agreement.Theorem.{hl3-agreement}
 use Rattle.store.specs.Layout.{storedLength}
 use Rattle.store.specs.Valid.{ValidHall}

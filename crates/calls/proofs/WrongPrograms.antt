@@ -10,8 +10,8 @@ use borrow.Author.Tests.{le-ltb}
 use lib.ListN.{length, length-replicate}
 use Rattle.base.specs.Lists.{Each}
 use Rattle.codec.specs.Bytes.{zeros}
-use Rattle.codec.proofs.TableLaws.{by-cases}
-use Rattle.model.specs.Base.{refuse, _⨾_}
+use Rattle.base.proofs.Bools.{by-cases, not-both}
+use Rattle.base.specs.Chains.{refuse, _⨾_}
 use Rattle.model.specs.Hall.{Hall}
 use Rattle.model.specs.Fields.{setConfirm, setRecorders}
 use Rattle.model.specs.Kinds.{receive, submit, kinds, kindOf, inputRefusal}
@@ -23,9 +23,8 @@ use Rattle.model.specs.Page.{Page, PageAnswer, shown, pageOf, pageRefusal, page
 use Rattle.model.specs.Call.{Words, wordsOf, WordsIn, hl3, step}
 use Rattle.model.specs.Run.{run}
 use Rattle.model.proofs.Computing.{computing}
-use Rattle.model.proofs.Agreement.Tools.{not-both}
-use Rattle.model.proofs.Agreement.Performed.{numberOf, same-kind}
-use Rattle.model.proofs.Agreement.Accepted.{performed-accepted, accepted-performed, refused-same}
+use Rattle.model.proofs.Accepting.Performed.{numberOf, same-kind}
+use Rattle.model.proofs.Accepting.Accepted.{performed-accepted, accepted-performed, refused-same}
 use Rattle.store.specs.Layout.{storedLength}
 use Rattle.store.specs.Valid.{ValidHall}
 use Rattle.store.specs.StoredForm.{stored, hallOf, isStored}

@@ -8,7 +8,7 @@ use lib.ListN.{length}
 use lib.Seq.{sets}
 use Rattle.codec.specs.Bytes.{zeros}
 use Rattle.codec.specs.Number.{digits}
-use Rattle.model.specs.Base.{refuse, _⨾_}
+use Rattle.base.specs.Chains.{refuse, _⨾_}
 use Rattle.model.specs.Answers.{Plain, plain}
 use Rattle.model.specs.Page.{plainPage}
 use Rattle.model.specs.Call.{Words}

@@ -3,7 +3,7 @@ use Prim.Native.Nat.{ℕ, zero, suc, _+_, _-_, _*_, _≤_, _<_, suc-le-suc}
 use native.Mathlib.Omega.{arith}
 use native.Mathlib.Nat.{le-of-eq, suc-ne-zero, suc-inj}
 use mathlib.Core.Path.{_≡_, refl, sym, ap, ap₂, subst, fun-ext, _∙_}
-use mathlib.Core.Bool.{Bool, true, false, false≢true, true≢false}
+use mathlib.Core.Bool.{true, false, false≢true, true≢false}
 use mathlib.Core.List.{List, [], _∷_, _++_, map, map-append}
 use lib.Dec.{eqb}
 use lib.ListN.{length, getD, set, length-append, length-map}
@@ -20,16 +20,15 @@ use Rattle.codec.specs.Cells.{encodeAll, cells}
 use Rattle.codec.proofs.CellsLaws.{encodeAll-nil, encodeAll-cons, cells-lawful}
 use Rattle.codec.proofs.Piece.{Piece, cell, mapped-piece, restated}
 use Rattle.codec.proofs.Blank.{Blank, cells-grow}
-use Rattle.codec.specs.Table.{place, lookup, Tabled, table, numbers, flags}
+use Rattle.codec.specs.Table.{place, lookup, Tabled, table, flags}
+use Rattle.base.specs.Numbers.{numbers}
+use Rattle.base.proofs.Bools.{by-cases}
+use Rattle.base.proofs.NumbersLaws.{length-numbers}
 
 -- each key stands once
 abbrev pub Distinct : List ℕ → Type 0
 Distinct [] = Unit {0}
 Distinct (y ∷ ys) = (has ys y ≡ false) × Distinct ys
-
-pub by-cases : {X : Type 0} (t : Bool) → (t ≡ true → X) → (t ≡ false → X) → X
-by-cases true f g = f refl
-by-cases false f g = g refl
 
 -- a key that is there differs from one that is not
 apart : (ks : List ℕ) (j k : ℕ) → has ks j ≡ true → has ks k ≡ false → eqb j k ≡ false
@@ -168,45 +167,6 @@ table-agree {A} {k} F G ks n d f h =
     same : (xs : List A) → Each (λ x. F .encode x ≡ G .encode x) xs → encodeAll F xs ≡ encodeAll G xs
     same [] a = encodeAll-nil F ∙ sym (encodeAll-nil G)
     same (x ∷ xs) a = encodeAll-cons F x xs ∙ ap₂ _++_ (a .0) (same xs (a .1)) ∙ sym (encodeAll-cons G x xs)
-
-pub length-numbers : (s n : ℕ) → length (numbers s n) ≡ n
-unfolding numbers
-length-numbers s zero = refl
-length-numbers s (suc n) = ap suc (length-numbers (suc s) n)
-
--- one number more
-pub numbers-snoc : (s n : ℕ) → numbers s (suc n) ≡ numbers s n ++ ((s + n) ∷ [])
-unfolding numbers
-numbers-snoc s zero =
-    let e : s ≡ s + 0 = omega arith in
-    ap (λ (j : ℕ). j ∷ []) e
-numbers-snoc s (suc n) =
-    let e : suc s + n ≡ s + suc n = omega arith in
-    ap (λ (z : List ℕ). s ∷ z) (numbers-snoc (suc s) n ∙ ap (λ (j : ℕ). numbers (suc s) n ++ (j ∷ [])) e)
-
-pub has-numbers : (s n j : ℕ) → s ≤ j → j < s + n → has (numbers s n) j ≡ true
-unfolding has numbers
-has-numbers s zero j h l = absurd (below h l)
-  where
-    below : s ≤ j → j < s + 0 → ⊥
-    below h l = omega arith
-has-numbers s (suc n) j h l =
-    by-cases (eqb j s) (λ e. rw (e, has)) (λ e. rw (e, has) (has-numbers (suc s) n j (more (eqb-false j s e)) (omega arith)))
-  where
-    more : (j ≡ s → ⊥) → suc s ≤ j
-    more ne = omega arith
-
-pub numbers-range : (s n j : ℕ) → has (numbers s n) j ≡ true → (s ≤ j) × (j < s + n)
-unfolding has numbers
-numbers-range s zero j h = absurd (false≢true h)
-numbers-range s (suc n) j h =
-    by-cases (eqb j s) (λ e. first (eqb-true j s e)) (λ e. later (numbers-range (suc s) n j (rw (e, has) at h)))
-  where
-    first : j ≡ s → (s ≤ j) × (j < s + suc n)
-    first e = omega arith
-
-    later : (suc s ≤ j) × (j < suc s + n) → (s ≤ j) × (j < s + suc n)
-    later r = omega arith
 
 pub place-numbers : (s n j : ℕ) → s ≤ j → j < s + n → place (numbers s n) j ≡ j - s
 unfolding place numbers

@@ -1,6 +1,6 @@
 -- Tables: a function stored by its values at a list of keys, with a default at every other number.
 -- Assumes nothing.
-use Prim.Native.Nat.{ℕ, zero, suc, _*_}
+use Prim.Native.Nat.{ℕ, suc, _*_}
 use mathlib.Core.Path.{_≡_}
 use mathlib.Core.Bool.{Bool, false, cond}
 use mathlib.Core.List.{List, [], _∷_, map}
@@ -11,6 +11,7 @@ use Rattle.codec.specs.Form.{Form, mapped}
 use Rattle.codec.specs.Number.{flag}
 use Rattle.base.specs.Lists.{Each}
 use Rattle.codec.specs.Cells.{cells}
+use Rattle.base.specs.Numbers.{numbers}
 
 -- the place of k among the keys
 unfoldable pub place : List ℕ → ℕ → ℕ
@@ -33,11 +34,6 @@ module _ {A : Type 0} {k : ℕ} (F : Form A k) (ks : List ℕ) (n : ℕ) (d : A)
   -- a function in n cells, of which the first hold its values at the keys and the others are blank
   unfoldable pub table : Form (ℕ → A) (n * k)
   table = mapped (cells F (length ks) n) (lookup ks d) (λ f. map f ks) Tabled
-
--- keys s, s + 1, .., n of them
-unfoldable pub numbers : ℕ → ℕ → List ℕ
-numbers s zero = []
-numbers s (suc n) = s ∷ numbers (suc s) n
 
 -- a set of numbers 1 .. n, by its test: a flag for each
 unfoldable pub flags : (n : ℕ) → Form (ℕ → Bool) (n * 1)

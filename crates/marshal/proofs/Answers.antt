@@ -6,7 +6,7 @@ use mathlib.Core.Bool.{Bool, true, false}
 use mathlib.Core.List.{List, [], _++_, append-nil}
 use lib.ListN.{length, take, drop, drop-of-length-le}
 use lib.Seq.{sets, sets-eq, length-take-le}
-use Rattle.codec.proofs.TableLaws.{by-cases}
+use Rattle.base.proofs.Bools.{by-cases}
 use Rattle.model.specs.Hall.{Hall}
 use Rattle.model.specs.Answers.{Content, Answer, message, refused, Plain, plain}
 use Rattle.model.specs.Page.{PageAnswer, plainPage}

@@ -5,7 +5,7 @@ ghost use mathlib.Core.List.{List};
 ghost use Prim.Native.Nat.{ℕ, _≤_, _<_, _*_};
 ghost use Rattle.store.specs.Layout.{storedLength};
 ghost use lib.ListN.{length};
-ghost use Rattle.model.specs.Base.{_⨾_};
+ghost use Rattle.base.specs.Chains.{_⨾_};
 ghost use Rattle.model.specs.Answers as model;
 ghost use Rattle.calls.specs.Calls.{stepOn};
 ghost use Rattle.model.specs.Call.{wordsOf};

@@ -4,3 +4,7 @@ pub mod EndCounts
 pub mod KindLaws
 pub mod Computing
 pub mod Cards
+pub mod Accepting
+pub mod Ordering
+pub mod OpeningLaws
+pub mod ServiceLaws

@@ -6,11 +6,11 @@ use mathlib.Core.Logic.{_⊎_}
 use mathlib.Core.Bool.{true}
 use mathlib.Core.List.{List, _∷_, map}
 use lib.ListN.{length}
-use Rattle.quorum.specs.Sets.{has}
+use Rattle.base.specs.Lists.{has, Begins}
 use Rattle.model.specs.Hall.{Summary, Hall, Recorders}
 use Rattle.model.specs.Ordering.{Choice}
 use Rattle.model.specs.Answers.{from}
-use Rattle.model.specs.Run.{Item, ofItems, orderOf, confirmedOf, Begins, History}
+use Rattle.model.specs.Run.{Item, ofItems, orderOf, confirmedOf, History}
 
 -- What is asked of the choice of a representative: it is one of the sources, with the greatest highest primary.
 pub record Fair (chosenrep : Choice) : Type 0 where

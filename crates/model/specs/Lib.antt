@@ -1,4 +1,3 @@
-pub mod Base
 pub mod Hall
 pub mod Fields
 pub mod Service

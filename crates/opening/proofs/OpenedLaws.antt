@@ -20,18 +20,23 @@ use Rattle.codec.proofs.NumberLaws.{digits-byte}
 use Rattle.codec.specs.Pair.{given}
 use Rattle.codec.specs.Cells.{cells}
 use Rattle.codec.proofs.Blank.{Blank, blank-number, blank-flag, blank-given, blank-cells, blank-bounded}
-use Rattle.codec.specs.Table.{table, numbers, flags}
-use Rattle.codec.proofs.TableLaws.{all-keys, length-numbers}
+use Rattle.codec.specs.Table.{table, flags}
+use Rattle.base.specs.Numbers.{numbers, recorders}
+use Rattle.codec.proofs.TableLaws.{all-keys}
+use Rattle.base.proofs.NumbersLaws.{length-numbers, recorders-range, rising-recorders}
 use Rattle.codec.proofs.SliceLaws.{sets-append-left}
-use Rattle.quorum.specs.Sets.{recorders, filter, inMask, members, mask, has, rising}
-use Rattle.quorum.proofs.SetLaws.{has-there, has-append, has-filter, has-members, recorders-range, members-range, members-nonempty, rising-recorders, rising-members, mask-append, mask-members}
+use Rattle.base.specs.Lists.{filter, has, rising}
+use Rattle.quorum.specs.Sets.{inMask, members, mask}
+use Rattle.base.proofs.ListsLaws.{has-there, has-append, has-filter, has-none}
+use Rattle.quorum.proofs.SetLaws.{has-members, members-range, members-nonempty, rising-members, mask-append, mask-members}
 use Rattle.model.specs.Hall.{maxEntries, maxSequence, maxBuffer, maxOrder, maxViews, maxNumber, maxRecorders, Queued, normal, Hall}
 use Rattle.model.specs.Fields.{setCurrent, setService}
 use Rattle.model.specs.Service.{createview}
 use Rattle.model.specs.Opening.{Opening, openRefusal, founderSet, noEntries, blankSummary, noSummaries, firstView, openService, openRecorders, openHall, opened}
-use Rattle.model.proofs.Agreement.Tools.{upd-ext, true-or-false}
-use Rattle.model.proofs.Agreement.Chains.{chain-none, not-refused}
-use Rattle.model.proofs.Agreement.KeepViews.{has-none, founder-first, outsider-first}
+use Rattle.base.proofs.UpdateLaws.{upd-ext}
+use Rattle.base.proofs.Bools.{true-or-false}
+use Rattle.base.proofs.ChainsLaws.{chain-none, not-refused}
+use Rattle.model.proofs.OpeningLaws.{founder-first, outsider-first}
 use Rattle.store.specs.Layout.{storedLength, recordersAt, recorderSize, numberSize, viewsAt, viewCells, viewSets}
 use Rattle.store.specs.Valid.{EachIn, ViewsIn, RecorderIn, InRange}
 use Rattle.store.specs.Cells.{entryAt, RecorderCell, blankRecorder, recorderAt, blankPlace, blankEntry, placeAt, PlaceCell}
@@ -51,7 +56,7 @@ use Rattle.store.proofs.Growth.{form-bytes}
 use Rattle.store.proofs.KeepFacts.{Between, Outside, not-outside, is-false}
 use Rattle.store.proofs.KeepEntries.{not-empty}
 use Rattle.store.proofs.KeepValid.{open-facts, opening-in}
-use Rattle.calls.specs.Calls.{OpenOutcome, openNumber}
+use Rattle.calls.specs.Calls.{openNumber}
 use Rattle.hall.proofs.Changes.{but-upd}
 use Rattle.hall.proofs.Writes.{write-piece}
 use Rattle.opening.specs.Opened.{founderMask, hallWith, begun, startOf, Taken}

@@ -7,7 +7,8 @@ use lib.Dec.{eqb}
 use lib.ListN.{length}
 use lib.Seq.{sets}
 use Rattle.base.specs.Update.{upd}
-use Rattle.quorum.specs.Sets.{recorders, members}
+use Rattle.base.specs.Numbers.{recorders}
+use Rattle.quorum.specs.Sets.{members}
 use Rattle.model.specs.Hall.{Hall, maxRecorders}
 use Rattle.model.specs.Fields.{setCreated, setMembers}
 use Rattle.model.specs.Opening.{Opening, noEntries, noSummaries, openService, openRecorders, openHall}

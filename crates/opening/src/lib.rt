@@ -6,7 +6,7 @@ ghost use Prim.Native.Nat.{ℕ, _+_, _-_, _*_, _^_, _≤_, _<_};
 ghost use lib.Dec.{ltb};
 ghost use lib.ListN.{length, drop};
 ghost use lib.Seq.{sets};
-ghost use Rattle.model.specs.Base.{refuse, _⨾_};
+ghost use Rattle.base.specs.Chains.{refuse, _⨾_};
 ghost use Rattle.model.specs.Opening.{openRefusal, openingOf};
 ghost use Rattle.model.specs.Hall.{maxRecorders};
 ghost use Rattle.store.specs.Layout.{storedLength, recordersAt, recorderSize};

@@ -8,8 +8,11 @@ use mathlib.Core.Logic.{_⊎_, inl, inr, ⊎-elim}
 use mathlib.Core.Path.{_≡_, refl, sym, ap, _∙_}
 use borrow.Author.Tests.{leb-true, eqb-true}
 use lib.Dec.{eqb, ltb}
-use Rattle.quorum.specs.Sets.{recorders, filter, inMask, members, has}
-use Rattle.quorum.proofs.SetLaws.{has-members, all-recorders}
+use Rattle.base.specs.Numbers.{recorders}
+use Rattle.base.specs.Lists.{filter, has}
+use Rattle.quorum.specs.Sets.{inMask, members}
+use Rattle.quorum.proofs.SetLaws.{has-members}
+use Rattle.base.proofs.NumbersLaws.{all-recorders}
 use Rattle.quorum.specs.Votes.{votes, total, quorum, share, builtIn, rowOf, builtInRow}
 
 -- ---- one recorder more

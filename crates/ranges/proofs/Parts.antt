@@ -20,7 +20,7 @@ use Rattle.codec.specs.Pair.{given}
 use Rattle.codec.specs.Cells.{validAll, cells}
 use Rattle.codec.specs.ByteList.{allIn}
 use Rattle.codec.specs.Table.{table, flags}
-use Rattle.codec.proofs.TableLaws.{length-numbers}
+use Rattle.base.proofs.NumbersLaws.{length-numbers}
 use Rattle.store.specs.Layout.{numberSize}
 
 -- a pair at offset o: the first part, and then the second

@@ -14,9 +14,10 @@ use Rattle.codec.specs.Number.{value, number, byte}
 use Rattle.codec.proofs.NumberLaws.{number-decode}
 use Rattle.codec.specs.Cells.{decodeAll, cells}
 use Rattle.codec.specs.Bounded.{bounded}
-use Rattle.codec.specs.Table.{table, numbers}
-use Rattle.codec.proofs.TableLaws.{length-numbers}
-use Rattle.quorum.specs.Sets.{rising}
+use Rattle.codec.specs.Table.{table}
+use Rattle.base.specs.Numbers.{numbers}
+use Rattle.base.proofs.NumbersLaws.{length-numbers}
+use Rattle.base.specs.Lists.{rising}
 use Rattle.model.specs.Hall.{maxEntries, maxViews, maxRecorders}
 use Rattle.store.specs.Layout.{entryCells, networkAt, recordersAt, queuesAt, storedLength, numberSize, viewSize, entrySize, viewsAt, viewCells, entriesAt, viewsSize, entriesSize, recordersSize, networkSize, queuesSize, bodySize, restSize}
 use Rattle.store.specs.Cells.{blankEntry}

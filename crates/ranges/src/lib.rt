@@ -7,7 +7,7 @@ ghost use Rattle.codec.specs.Bytes.{part};
 ghost use Rattle.codec.specs.Number.{byte, mark};
 ghost use Rattle.codec.specs.Cells.{cells};
 ghost use Rattle.codec.specs.Table.{flags};
-ghost use Rattle.quorum.specs.Sets.{rising};
+ghost use Rattle.base.specs.Lists.{rising};
 ghost use Rattle.model.specs.Hall.{maxEntries, maxViews, maxQueue, maxRecorders};
 ghost use Rattle.store.specs.Layout.{viewsAt, viewCells, viewSize, entriesAt, entryCells, entrySize, recordersAt, recorderSize, networkAt, placeSize, rowSize, summarySize, queuesAt, queueSize, storedLength, numberSize, setsSize, sentSize, queuedSize, messagesSize, viewsSize, entriesSize, recordersSize, networkSize, queuesSize};
 ghost use Rattle.store.specs.CellForms.{viewNumber, entryForm, summaryForm, sentForm, recorderForm, placeForm, queuedForm, queueForm};

@@ -10,7 +10,7 @@ use lib.ListN.{length, getD, take, drop, length-append, length-drop, take-append
 use lib.Seq.{sets, sets-eq, take-at, drop-at, take-all, drop-drop, drop-append-add}
 use borrow.Author.Tests.{eqb-true}
 use Rattle.base.specs.Lists.{Each}
-use Rattle.model.specs.Base.{refuse, _⨾_}
+use Rattle.base.specs.Chains.{refuse, _⨾_}
 use Rattle.model.specs.Opening.{wrongOpening, openRefusal}
 use Rattle.model.specs.Call.{Words, wordsOf}
 use Rattle.model.specs.RunFile.{maxFile, blockAt, blockBytes, blocksAt, blocksBytes, RunText, distance, trailerOf, runPart, brokenFile, readText, Reading, readRefusal, readFile, fileBytes, WriteAnswer, writeFile}

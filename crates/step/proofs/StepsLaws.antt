@@ -6,13 +6,13 @@ use mathlib.Core.Bool.{Bool, true, false}
 use mathlib.Core.List.{List}
 use lib.Dec.{eqb}
 use borrow.Author.Tests.{eq-eqb, ne-eqb, eqb-true}
-use Rattle.model.specs.Base.{_⨾_}
-use Rattle.model.proofs.Agreement.Chains.{chain-none}
-use Rattle.codec.proofs.TableLaws.{by-cases}
+use Rattle.base.specs.Chains.{_⨾_}
+use Rattle.base.proofs.ChainsLaws.{chain-none}
+use Rattle.base.proofs.Bools.{by-cases}
 use Rattle.model.specs.Kinds.{Kind, KindWord, kind, noKind, kinds, lastKind, kindOf, inputRefusal}
 use Rattle.model.proofs.KindLaws.{names-kind, past-last}
 use Rattle.model.specs.Answers as model
-use Rattle.model.specs.Call.{Words, wordsOf}
+use Rattle.model.specs.Call.{wordsOf}
 use Rattle.store.specs.StoredForm.{hallOf, isStored}
 use Rattle.answer.specs.declared.Answer.{Answer}
 use Rattle.answer.specs.Meaning.{meaning}

@@ -2,7 +2,7 @@
 ghost use mathlib.Core.Path.{_≡_};
 ghost use mathlib.Core.Bool.{true};
 ghost use Prim.Native.Nat.{_≤_};
-ghost use Rattle.model.specs.Base.{_⨾_};
+ghost use Rattle.base.specs.Chains.{_⨾_};
 ghost use Rattle.model.specs.Kinds.{lastKind};
 ghost use Rattle.store.specs.StoredForm.{isStored};
 ghost use Rattle.words.specs.Words.{kindAt};

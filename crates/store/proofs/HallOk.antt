@@ -9,9 +9,12 @@ use lib.ListN.{length}
 use Rattle.codec.specs.Form.{mapped, renamed, guarded}
 use Rattle.codec.specs.Number.{number}
 use Rattle.codec.specs.Pair.{given}
-use Rattle.codec.proofs.TableLaws.{by-cases, numbers-range, all-keys, each-key}
-use Rattle.codec.specs.Table.{Tabled, table, numbers}
-use Rattle.quorum.specs.Sets.{has}
+use Rattle.base.proofs.Bools.{by-cases}
+use Rattle.base.proofs.NumbersLaws.{numbers-range}
+use Rattle.codec.proofs.TableLaws.{all-keys, each-key}
+use Rattle.codec.specs.Table.{Tabled, table}
+use Rattle.base.specs.Numbers.{numbers}
+use Rattle.base.specs.Lists.{has}
 use Rattle.model.specs.Hall.{maxViews, maxQueue, maxRecorders, Queued, Hall}
 use Rattle.store.specs.Valid.{QueueIn, InRange, ValidHall}
 use Rattle.store.specs.Cells.{RecorderCell, blankRecorder, recorderAt, PlaceCell, blankPlace, placeAt}

@@ -9,22 +9,22 @@ use mathlib.Core.List.{List, [], _∷_}
 use borrow.Author.Tests.{leb-false, ltb-false}
 use lib.ListN.{length}
 use Rattle.codec.proofs.BoundedLaws.{within-nil, within-push}
-use Rattle.quorum.specs.Sets.{has, members}
-use Rattle.quorum.proofs.SetLaws.{has-head}
-use Rattle.model.specs.Base.{upd, upd₂}
+use Rattle.base.specs.Lists.{has}
+use Rattle.quorum.specs.Sets.{members}
+use Rattle.base.proofs.ListsLaws.{has-head, has-none, greatest-above, greatest-least}
+use Rattle.base.specs.Update.{upd, upd₂}
 use Rattle.model.specs.Hall.{maxEntries, maxSequence, maxBuffer, maxOrder, maxNumber, Entries, Message, Message.entry, Message.summary, Queued, Summary, normal, send, collect, Recorders, Hall}
 use Rattle.model.specs.Fields.{setPending, setQueue, setNext, setNextSafe, setService, setRecorders, setSafe}
 use Rattle.model.specs.Service.{exceedsCreated, createview, newview, gpsnd, vsOrder, gprcv, safe}
 use Rattle.model.specs.Ordering.{Choice, shortorder, fullorder, builtOrder, builtHigh, maxprimary, maxnextconfirm, labelled, sentEntry, summaryOf, sentSummary, entered, heardSummary, established, completes, heardSources, confirmed, reported}
 use Rattle.model.specs.Refusals.{Rules, isPrimary, summariesOf, orderFull, builtTooLong, noRoomToReceive}
 use Rattle.model.specs.Actions.{doSubmit, doForm}
-use Rattle.model.proofs.Agreement.Moves.{current, membersOf, At, queued, CanLabel, afterLabel, CanSendEntry, afterSendEntry, CanSendSummary, afterSendSummary, CanForm, CanEnter, afterEnter, CanOrder, afterOrder, CanReceive, afterReceive, learnt, joined, told, CanNotice, afterNotice, safeFrom, builtAt, heardOrder, CanConfirm, CanDeliver, Move, submits, labels, sendsEntry, sendsSummary, forms, enters, orders, receives, receivesPrimary, hears, hearsLast, notices, noticesPrimary, noticesSummary, noticesLast, confirms, delivers}
-use Rattle.model.proofs.Agreement.Tools.{at-place₂, upd-at, upd-at-both, upd₂-same, upd₂-other, upd₂-at, not-both, and-true}
-use Rattle.model.proofs.Agreement.Traffic.{order-queue, order-pending}
-use Rattle.model.proofs.Agreement.Rows.{first-waiting}
-use Rattle.model.proofs.Agreement.FullOrder.{known-from, full-in}
-use Rattle.model.proofs.Agreement.KeepViews.{has-none}
-use Rattle.model.proofs.Agreement.KeepOrders.{greatest-above, greatest-least}
+use Rattle.model.proofs.Accepting.Moves.{current, membersOf, At, queued, CanLabel, afterLabel, CanSendEntry, afterSendEntry, CanSendSummary, afterSendSummary, CanForm, CanEnter, afterEnter, CanOrder, afterOrder, CanReceive, afterReceive, learnt, joined, told, CanNotice, afterNotice, safeFrom, builtAt, heardOrder, CanConfirm, CanDeliver, Move, submits, labels, sendsEntry, sendsSummary, forms, enters, orders, receives, receivesPrimary, hears, hearsLast, notices, noticesPrimary, noticesSummary, noticesLast, confirms, delivers}
+use Rattle.base.proofs.UpdateLaws.{at-place₂, upd-at, upd-at-both, upd₂-same, upd₂-other, upd₂-at}
+use Rattle.base.proofs.Bools.{not-both, and-true}
+use Rattle.model.proofs.ServiceLaws.{order-queue, order-pending}
+use Rattle.model.proofs.Ordering.Waiting.{first-waiting}
+use Rattle.model.proofs.Ordering.FullOrder.{known-from, full-in}
 use Rattle.store.proofs.KeepFacts.{Between, none, Named, Names, RecorderFacts, SourceFacts, SummaryFacts, QueuedOf, TrafficFacts, MarkIn, Facts, inside?, member-in, listed-names, names-listed}
 use Rattle.store.proofs.KeepParts.{names-more, names-join, listed-rest, at-phase, at-known, at-nextSeq, at-buffer, at-order, at-safe, at-confirm, at-report, at-high, at-heard, at-safeSources, Grows, recorders-grow, sources-grow, sums-grow, traffic-grow, each-at, at-pending, at-queue, at-mark, mark-grow}
 use Rattle.store.proofs.KeepEntries.{submit-keeps, label-keeps, form-keeps}

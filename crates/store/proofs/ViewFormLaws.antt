@@ -11,13 +11,13 @@ use Rattle.codec.specs.Number.{number}
 use Rattle.codec.proofs.NumberLaws.{number-lawful}
 use Rattle.codec.specs.Pair.{given}
 use Rattle.codec.proofs.PairLaws.{pair-lawful}
-use Rattle.base.specs.Lists.{Each}
+use Rattle.base.specs.Lists.{Each, has, rising}
 use Rattle.codec.specs.Bounded.{bounded}
 use Rattle.codec.proofs.BoundedLaws.{bounded-lawful}
-use Rattle.codec.proofs.TableLaws.{by-cases, Distinct, Above, above-distinct, lookup-map, lookup-outside, map-lookup, all-keys, each-key}
+use Rattle.base.proofs.Bools.{by-cases}
+use Rattle.codec.proofs.TableLaws.{Distinct, Above, above-distinct, lookup-map, lookup-outside, map-lookup, all-keys, each-key}
 use Rattle.codec.specs.Table.{lookup}
-use Rattle.quorum.specs.Sets.{has, rising}
-use Rattle.quorum.proofs.SetLaws.{rising-cons, rising-above}
+use Rattle.base.proofs.ListsLaws.{rising-cons, rising-above}
 use Rattle.model.specs.Hall.{maxViews, maxNumber}
 use Rattle.store.specs.Layout.{numberSize}
 use Rattle.store.specs.Valid.{ViewsIn}

@@ -5,7 +5,8 @@ use mathlib.Core.Bool.{true}
 use mathlib.Core.List.{List, []}
 use Rattle.codec.specs.Form.{Form, mapped}
 use Rattle.codec.specs.Number.{byte}
-use Rattle.quorum.specs.Sets.{rising, members, mask}
+use Rattle.base.specs.Lists.{rising}
+use Rattle.quorum.specs.Sets.{members, mask}
 use Rattle.model.specs.Hall.{maxRecorders}
 use Rattle.store.specs.Valid.{EachIn}
 

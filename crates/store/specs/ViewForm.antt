@@ -7,7 +7,7 @@ use Rattle.codec.specs.Number.{number}
 use Rattle.codec.specs.Pair.{pair}
 use Rattle.codec.specs.Bounded.{bounded}
 use Rattle.codec.specs.Table.{lookup}
-use Rattle.quorum.specs.Sets.{rising}
+use Rattle.base.specs.Lists.{rising}
 use Rattle.model.specs.Hall.{maxViews, maxNumber}
 use Rattle.store.specs.Layout.{numberSize, viewSize, viewsSize}
 use Rattle.store.specs.Valid.{ViewsIn}

@@ -4,20 +4,16 @@ use Prim.Native.Nat.{ℕ, zero, suc, _+_, _/_, _%_, _^_, _≤_, _<_}
 use native.Mathlib.Omega.{arith}
 use native.Mathlib.Numerals.{add-one}
 use mathlib.Core.Path.{_≡_, refl, sym, ap, subst, _∙_}
-use mathlib.Core.Bool.{Bool, true, false}
 use mathlib.Core.List.{List, [], _∷_, _++_, append-assoc}
 use lib.Dec.{ltb}
 use lib.ListN.{length, length-append}
 use borrow.Author.Tests.{ltb-true, ltb-false, lt-ltb, le-ltb}
 use Rattle.model.specs.Listing.{digits, decimal}
+use Rattle.base.proofs.Bools.{by-cases}
 
 -- the last digit of x
 abbrev pub lastDigit : ℕ → ℕ
 lastDigit x = 48 + x % 10
-
-by-cases : {X : Type 0} (t : Bool) → (t ≡ true → X) → (t ≡ false → X) → X
-by-cases true f g = f refl
-by-cases false f g = g refl
 
 digits-small : (f x : ℕ) (rest : List ℕ) → x < 10 → digits (suc f) x rest ≡ lastDigit x ∷ rest
 unfolding digits

@@ -10,10 +10,11 @@ use lib.ListN.{length, getD}
 use borrow.Author.Tests.{ne-eqb}
 use Rattle.codec.specs.Bytes.{part}
 use Rattle.codec.proofs.BytesLaws.{part-rest}
-use Rattle.codec.proofs.TableLaws.{by-cases}
-use Rattle.quorum.specs.Sets.{has, recorders}
-use Rattle.quorum.proofs.SetLaws.{has-head, has-later, has-cons, has-there, has-recorders}
-use Rattle.model.specs.Base.{all}
+use Rattle.base.proofs.Bools.{by-cases}
+use Rattle.base.specs.Lists.{has, all}
+use Rattle.base.specs.Numbers.{recorders}
+use Rattle.base.proofs.ListsLaws.{has-head, has-later, has-cons, has-there}
+use Rattle.base.proofs.NumbersLaws.{has-recorders}
 use Rattle.store.specs.Layout.{viewSize, viewCells}
 use Rattle.ranges.specs.TableParts.{viewNumbers}
 use Rattle.validity.specs.Alls.{viewAt}

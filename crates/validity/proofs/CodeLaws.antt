@@ -14,8 +14,9 @@ use Rattle.codec.specs.Form.{guarded}
 use Rattle.codec.specs.Number.{value}
 use Rattle.codec.specs.Slice.{Held, holds, valueOf}
 use Rattle.codec.proofs.SliceLaws.{areBytes-of}
-use Rattle.codec.proofs.TableLaws.{by-cases}
-use Rattle.quorum.specs.Sets.{has, members}
+use Rattle.base.proofs.Bools.{by-cases}
+use Rattle.base.specs.Lists.{has}
+use Rattle.quorum.specs.Sets.{members}
 use Rattle.model.specs.Ordering.{isLabelled}
 use Rattle.model.specs.Hall.{maxEntries}
 use Rattle.store.specs.Layout.{storedLength, numberSize, entryLabelAt, entrySequenceAt, entrySize, entryCells}

@@ -18,12 +18,14 @@ use Rattle.codec.specs.Bounded.{bounded}
 use Rattle.codec.specs.ByteList.{listAt}
 use Rattle.codec.proofs.ByteListLaws.{decode-list, valid-list-count}
 use Rattle.codec.specs.Slice.{Held}
-use Rattle.codec.proofs.TableLaws.{by-cases}
+use Rattle.base.proofs.Bools.{by-cases}
 use Rattle.codec.specs.Table.{flags}
-use Rattle.quorum.specs.Sets.{has, recorders, members}
-use Rattle.quorum.proofs.SetLaws.{recorders-range, members-range, has-recorders}
-use Rattle.model.specs.Base.{all}
-use Rattle.model.specs.Hall.{maxEntries, Entries, Message, Message.entry, Message.summary, Queued, Summary, Hall, maxBuffer, maxOrder, maxRecorders}
+use Rattle.base.specs.Lists.{has, all}
+use Rattle.base.specs.Numbers.{recorders}
+use Rattle.quorum.specs.Sets.{members}
+use Rattle.base.proofs.NumbersLaws.{recorders-range, has-recorders}
+use Rattle.quorum.proofs.SetLaws.{members-range}
+use Rattle.model.specs.Hall.{maxEntries, Entries, Message, Message.summary, Queued, Summary, Hall, maxBuffer, maxOrder, maxRecorders}
 use Rattle.model.specs.Opening.{blankSummary}
 use Rattle.model.specs.Ordering.{isLabelled, numbers}
 use Rattle.store.specs.Layout.{entryCells, entrySize, recordersAt, recorderSize, queuesAt, queueSize, numberSize, payloadSize, entryPayloadAt, entryLabelAt, entrySequenceAt, listSize, recorderBufferAt, recorderOrderAt, recorderKnownAt, recorderSafeAt, recorderHeardAt, recorderSafeSourcesAt, summaryOrderAt, placeSummaryAt}

@@ -13,8 +13,10 @@ use Rattle.codec.specs.Bytes.{part}
 use Rattle.codec.specs.Form.{mapped}
 use Rattle.codec.specs.Number.{value, number, flag}
 use Rattle.codec.specs.Cells.{decodeAll, cells}
-use Rattle.codec.proofs.TableLaws.{by-cases, length-numbers}
-use Rattle.codec.specs.Table.{lookup, table, flags, numbers}
+use Rattle.base.proofs.Bools.{by-cases}
+use Rattle.base.proofs.NumbersLaws.{length-numbers}
+use Rattle.codec.specs.Table.{lookup, table, flags}
+use Rattle.base.specs.Numbers.{numbers}
 use Rattle.model.specs.Hall.{maxEntries}
 use Rattle.validity.specs.Marks.{marked, messageMarked, flagAt}
 

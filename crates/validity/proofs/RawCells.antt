@@ -14,7 +14,7 @@ use Rattle.codec.specs.Cells.{decodeAll, cells}
 use Rattle.codec.specs.Bounded.{bounded}
 use Rattle.codec.specs.Slice.{Held}
 use Rattle.codec.proofs.SliceLaws.{slice-value, slice-valid}
-use Rattle.codec.proofs.TableLaws.{by-cases}
+use Rattle.base.proofs.Bools.{by-cases}
 use Rattle.codec.specs.Table.{flags}
 use Rattle.model.specs.Hall.{Message, Summary, maxEntries, maxSequence, maxBuffer, maxOrder, maxPending, maxQueue}
 use Rattle.model.specs.Opening.{blankSummary}

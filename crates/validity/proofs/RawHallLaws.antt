@@ -15,10 +15,13 @@ use Rattle.codec.specs.Number.{value, byte}
 use Rattle.codec.specs.Pair.{pair}
 use Rattle.codec.specs.Slice.{Held, valueOf}
 use Rattle.codec.proofs.SliceLaws.{value-ok, slice-value}
-use Rattle.codec.proofs.TableLaws.{by-cases, Distinct}
-use Rattle.codec.specs.Table.{place, table, numbers}
-use Rattle.quorum.specs.Sets.{has, members, recorders, inMask}
-use Rattle.quorum.proofs.SetLaws.{has-head, has-later, has-filter}
+use Rattle.base.proofs.Bools.{by-cases}
+use Rattle.codec.proofs.TableLaws.{Distinct}
+use Rattle.codec.specs.Table.{place, table}
+use Rattle.base.specs.Numbers.{numbers, recorders}
+use Rattle.base.specs.Lists.{has}
+use Rattle.quorum.specs.Sets.{members, inMask}
+use Rattle.base.proofs.ListsLaws.{has-head, has-later, has-filter}
 use Rattle.model.specs.Hall.{maxEntries, maxRecorders, Hall, maxViews}
 use Rattle.store.specs.Layout.{storedLength, entryCells, entrySize, numberSize, wordSize, viewSetAt, viewSize, payloadSize, entryPayloadAt, viewsAt, viewCells, entriesAt, viewsSize}
 use Rattle.store.specs.Valid.{InRange}

@@ -5,7 +5,7 @@ use mathlib.Core.Bool.{false}
 use mathlib.Core.List.{List}
 use Rattle.codec.specs.Bytes.{part}
 use Rattle.codec.specs.Number.{value}
-use Rattle.quorum.specs.Sets.{has}
+use Rattle.base.specs.Lists.{has}
 use Rattle.store.specs.Layout.{numberSize, viewSize, viewCells}
 use Rattle.ranges.specs.TableParts.{viewNumbers}
 

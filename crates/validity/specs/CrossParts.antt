@@ -6,8 +6,9 @@ use mathlib.Core.List.{List}
 use lib.Dec.{eqb}
 use lib.ListN.{getD}
 use Rattle.codec.specs.ByteList.{listAt}
-use Rattle.quorum.specs.Sets.{has, recorders, members}
-use Rattle.model.specs.Base.{all}
+use Rattle.base.specs.Lists.{has, all}
+use Rattle.base.specs.Numbers.{recorders}
+use Rattle.quorum.specs.Sets.{members}
 use Rattle.model.specs.Hall.{Entries, Hall, maxEntries}
 use Rattle.model.specs.Ordering.{isLabelled}
 use Rattle.store.specs.Valid.{labelledEntry, queueNames, placeCross}

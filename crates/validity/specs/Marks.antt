@@ -4,7 +4,8 @@ use mathlib.Core.Bool.{Bool, true, false, not, _&&_, _||_}
 use mathlib.Core.List.{List}
 use lib.Dec.{eqb, leb, ltb}
 use lib.ListN.{getD}
-use Rattle.quorum.specs.Sets.{has, members}
+use Rattle.base.specs.Lists.{has}
+use Rattle.quorum.specs.Sets.{members}
 use Rattle.model.specs.Hall.{maxEntries}
 use Rattle.store.specs.Layout.{networkAt, placeSize, rowSize, placeSentAt}
 

@@ -1,4 +1,3 @@
-pub mod Chain
 pub mod Found
 pub mod OutsideLaws
 pub mod PlacingLaws

@@ -2,7 +2,7 @@
 // of this repository: a `requires` is met by each caller's proof.
 ghost use mathlib.Core.Path.{_≡_};
 ghost use Prim.Native.Nat.{_≤_};
-ghost use Rattle.model.specs.Base.{refuse, _⨾_};
+ghost use Rattle.base.specs.Chains.{refuse, _⨾_};
 ghost use Rattle.model.specs.Kinds.{lastKind, uses, wrongRecorder, strayWord, wrongNumber, wrongSet, inputRefusal};
 ghost use Rattle.words.specs.Words.{kindAt, useOf, usesOf};
 use model::kinds;

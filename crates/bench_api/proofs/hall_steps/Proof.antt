@@ -4,7 +4,7 @@ use Prim.Native.Nat.{_/_}
 use native.Mathlib.Omega.{arith}
 use lib.ListN.{length}
 use mathlib.Core.Path.{sym, _∙_}
-use Rattle.codec.proofs.TableLaws.{by-cases}
+use Rattle.base.proofs.Bools.{by-cases}
 use Rattle.store.specs.StoredForm.{isStored}
 use Rattle.runfile.specs.Answers.{actionsOf}
 use Rattle.runfile.proofs.WriteLaws.{length-actionsOf}

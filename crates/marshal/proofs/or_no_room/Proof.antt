@@ -1,5 +1,5 @@
 -- `marshal::or_no_room` meets its contract. Assumes nothing.
-use Rattle.model.specs.Base.{_⨾_}
+use Rattle.base.specs.Chains.{_⨾_}
 use borrow.Author.Tests.{eq-eqb, ne-eqb}
 use Rattle.marshal.proofs.or_no_room.Statement.{statement}
 use Rattle.marshal.proofs.or_no_room.Tie as tie

@@ -1,5 +1,5 @@
 -- `marshal::try_step` meets its contract. Assumes nothing.
-use Rattle.model.specs.Base.{_⨾_}
+use Rattle.base.specs.Chains.{_⨾_}
 use mathlib.Core.Path.{_≡_, refl, sym, ap, _∙_}
 use borrow.Author.Needs.{needs}
 use Rattle.marshal.proofs.try_step.Statement.{statement}

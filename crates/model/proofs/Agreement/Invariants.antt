@@ -7,11 +7,11 @@ use mathlib.Core.Logic.{_⊎_}
 use mathlib.Core.Bool.{Bool, true, false}
 use mathlib.Core.List.{List, [], _++_}
 use lib.ListN.{length, take}
-use Rattle.quorum.specs.Sets.{has}
+use Rattle.base.specs.Lists.{has, Begins}
 use Rattle.model.specs.Hall.{Entries, Message, Queued, Service, Summary, Summaries, Phase, normal, send, collect, Recorders, Hall}
 use Rattle.model.specs.Refusals.{Rules, isPrimary}
-use Rattle.model.specs.Run.{Begins}
-use Rattle.model.proofs.Agreement.State.{entriesIn, entriesFrom, summaryIn, entriesOf, hasSummary, received, noticed, Est, full, built, Labelled, Before, InRow, Tidy}
+use Rattle.model.proofs.Agreement.State.{entriesIn, entriesFrom, summaryIn, entriesOf, hasSummary, received, noticed, Est, full, built}
+use Rattle.model.proofs.Ordering.Labels.{Labelled, Before, InRow, Tidy}
 
 -- V: formed views and current views
 pub record Views (created : List ℕ) (S : ℕ → List ℕ) (cur : ℕ → ℕ) : Type 0 where

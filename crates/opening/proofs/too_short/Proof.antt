@@ -1,6 +1,6 @@
 -- `opening::too_short` meets its contract. Assumes nothing.
 use borrow.Author.Tests.{lt-ltb, le-ltb}
-use Rattle.model.specs.Base.{refuse}
+use Rattle.base.specs.Chains.{refuse}
 use Rattle.opening.proofs.too_short.Statement.{statement}
 use Rattle.opening.proofs.too_short.Tie as tie
 

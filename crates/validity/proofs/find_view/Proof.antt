@@ -5,7 +5,7 @@ use Prim.Native.Nat.{ℕ, _-_, _≤_}
 use native.Mathlib.Omega.{arith}
 use mathlib.Core.Path.{_≡_, sym, ap, subst, _∙_}
 use mathlib.Core.List.{List}
-use Rattle.quorum.specs.Sets.{has}
+use Rattle.base.specs.Lists.{has}
 use Rattle.ranges.specs.TableParts.{viewNumbers}
 use Rattle.validity.specs.Alls.{Found}
 use Rattle.validity.proofs.AllsLaws.{viewsFrom, views-all, search-next, search-end}

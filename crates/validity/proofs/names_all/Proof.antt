@@ -8,7 +8,7 @@ use lib.ListN.{getD}
 use borrow.Author.Tests.{not-true, not-false}
 use Rattle.codec.specs.Bytes.{part}
 use Rattle.codec.specs.ByteList.{listAt}
-use Rattle.model.specs.Base.{all}
+use Rattle.base.specs.Lists.{all}
 use Rattle.validity.proofs.AllsLaws.{part-none, part-fail, part-next}
 use Rattle.validity.specs.Marks.{messageMarked}
 use Rattle.validity.proofs.names_all.Statement.{statement}

@@ -5,7 +5,8 @@ use native.Mathlib.Omega.{arith}
 use mathlib.Core.Path.{sym, ap, _∙_}
 use mathlib.Core.Bool.{Bool}
 use lib.ListN.{getD}
-use Rattle.quorum.specs.Sets.{has, members}
+use Rattle.base.specs.Lists.{has}
+use Rattle.quorum.specs.Sets.{members}
 use Rattle.quorum.proofs.SetLaws.{members-range}
 use Rattle.validity.specs.Marks.{messageMarked}
 use Rattle.validity.specs.RawHall.{sizeAt}

@@ -6,8 +6,8 @@ use mathlib.Core.Bool.{Bool, not, _&&_}
 use lib.Dec.{eqb}
 use lib.ListN.{getD}
 use Rattle.codec.specs.ByteList.{listAt}
-use Rattle.quorum.specs.Sets.{has, members}
-use Rattle.model.specs.Base.{all}
+use Rattle.base.specs.Lists.{has, all}
+use Rattle.quorum.specs.Sets.{members}
 use Rattle.validity.specs.Marks.{messageMarked, placeOff}
 use Rattle.validity.specs.RawHall.{sizeAt}
 use Rattle.validity.proofs.CrossPartsLaws.{place-member, place-other}

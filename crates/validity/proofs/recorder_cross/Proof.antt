@@ -4,8 +4,9 @@ use Prim.Native.Nat.{ℕ, _+_, _-_, _*_}
 use mathlib.Core.Path.{sym, ap, ap₂, subst, _∙_}
 use mathlib.Core.Bool.{_&&_, _||_}
 use lib.Dec.{eqb}
-use Rattle.quorum.specs.Sets.{has, members, recorders}
-use Rattle.model.specs.Base.{all}
+use Rattle.base.specs.Lists.{has, all}
+use Rattle.quorum.specs.Sets.{members}
+use Rattle.base.specs.Numbers.{recorders}
 use Rattle.validity.specs.Alls.{Found}
 use Rattle.validity.specs.Marks.{heardOk, sourceOk}
 use Rattle.validity.specs.RawHall.{sizeAt, viewCount}

@@ -3,8 +3,8 @@ use denote.Ref.{now}
 use Prim.Native.Nat.{ℕ}
 use mathlib.Core.Path.{sym, ap, ap₂, _∙_}
 use mathlib.Core.Bool.{_&&_}
-use Rattle.quorum.specs.Sets.{recorders}
-use Rattle.model.specs.Base.{all}
+use Rattle.base.specs.Numbers.{recorders}
+use Rattle.base.specs.Lists.{all}
 use Rattle.store.specs.Valid.{placeCross}
 use Rattle.validity.specs.Alls.{viewAt}
 use Rattle.validity.specs.RawHall.{raw}

@@ -4,7 +4,7 @@ use denote.Ref.{now}
 use Prim.Native.Nat.{ℕ, _-_, _≤_}
 use mathlib.Core.Path.{_≡_, sym, ap, _∙_}
 use borrow.Author.Tests.{not-true, not-false}
-use Rattle.model.specs.Base.{all}
+use Rattle.base.specs.Lists.{all}
 use Rattle.ranges.specs.TableParts.{viewNumbers}
 use Rattle.validity.proofs.AllsLaws.{viewsFrom, views-all, views-fail, views-next, views-none}
 use Rattle.validity.specs.RawHall.{raw}

@@ -1,6 +1,6 @@
 -- `words::first` meets its contract. Assumes nothing.
 use borrow.Author.Tests.{eq-eqb, ne-eqb}
-use Rattle.model.specs.Base.{_⨾_}
+use Rattle.base.specs.Chains.{_⨾_}
 use Rattle.words.proofs.first.Statement.{statement}
 use Rattle.words.proofs.first.Tie as tie
 

@@ -1,7 +1,7 @@
 -- `words::input_refusal` meets its contract. Assumes nothing.
 use mathlib.Core.Path.{ap₂, _∙_}
 use borrow.Author.Needs.{needs}
-use Rattle.model.specs.Base.{_⨾_}
+use Rattle.base.specs.Chains.{_⨾_}
 use Rattle.words.specs.Words.{kindAt}
 use Rattle.words.proofs.WordsLaws.{by-row, of-test, of-tests}
 use Rattle.words.proofs.input_refusal.Statement.{statement}

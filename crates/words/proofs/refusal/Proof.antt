@@ -1,6 +1,6 @@
 -- `words::refusal` meets its contract. Assumes nothing.
 use mathlib.Core.Path.{sym, ap}
-use Rattle.model.specs.Base.{refuse}
+use Rattle.base.specs.Chains.{refuse}
 use Rattle.words.proofs.refusal.Statement.{statement}
 use Rattle.words.proofs.refusal.Tie as tie
 

@@ -7,13 +7,10 @@ use mathlib.Core.Logic.{⊎-elim}
 use mathlib.Core.Bool.{Bool, true, false, not, _&&_}
 use mathlib.Core.List.{List, [], _∷_, _++_, map}
 use lib.ListN.{length}
-use Rattle.quorum.specs.Sets.{filter, has, rising}
-use Rattle.quorum.proofs.SetLaws.{has-head, has-later, filter-in, filter-out, filter-append, in-filter, rising-cons, rising-above, rising-filter}
+use Rattle.base.specs.Lists.{filter, has, rising, countOf}
+use Rattle.base.proofs.ListsLaws.{has-head, has-later, filter-in, filter-out, filter-append, in-filter, rising-cons, rising-above, rising-filter}
 use borrow.Author.Tests.{not-true}
-use Rattle.model.specs.Base.{countOf}
-use Rattle.model.proofs.Agreement.Tools.{same?}
-
--- ## Tests that agree on a list
+use Rattle.base.proofs.UpdateLaws.{same?}
 
 pub map-same : {A : Type 0} (f k : ℕ → A) (xs : List ℕ) → ((x : ℕ) → has xs x ≡ true → f x ≡ k x) → map f xs ≡ map k xs
 map-same f k [] same = refl
@@ -50,8 +47,6 @@ filter-filter p q (x ∷ xs) = go (p x) refl (q x) refl (filter-filter p q xs)
     go true e false f ih = simp (filter-in, filter-out, e, f) ih
     go false e u f ih = simp (filter-out, e) ih
 
--- ## Counts
-
 pub count-filter : (p : ℕ → Bool) (xs : List ℕ) → countOf p xs ≡ length (filter p xs)
 unfolding countOf filter
 count-filter p [] = refl
@@ -61,15 +56,11 @@ count-filter p (x ∷ xs) = go (p x) refl (count-filter p xs)
     go true e ih = rw (e, countOf, filter-in) (omega arith)
     go false e ih = rw (e, countOf, filter-out) (omega arith)
 
--- ## Rising lists
-
 -- a rising list has its head only once
 pub rising-head : (a x : ℕ) (xs : List ℕ) → rising a (x ∷ xs) ≡ true → (y : ℕ) → has xs y ≡ true → y ≡ x → ⊥
 rising-head a x xs r y m e =
     let above = rising-above x xs (rising-cons a x xs .0 r .1) y m in
     omega arith
-
--- ## Lists in which the elements with a mark come first
 
 -- p marks the first elements of the rising list xs, and p′ marks e too, the first without p
 module _ (p p′ : ℕ → Bool) (xs : List ℕ) (a : ℕ) (rises : rising a xs ≡ true)

@@ -1,14 +1,12 @@
--- Tools of the proofs: functions changed at one place, beginnings of lists, and what a move does to what was received.
+-- Laws of functions changed at one place.
 -- Assumes nothing.
 use Prim.Native.Nat.{ℕ}
 use mathlib.Core.Path.{_≡_, refl, sym, ap, _∙_, subst, fun-ext}
 use mathlib.Core.Logic.{_⊎_, inl, inr, ⊎-elim}
-use mathlib.Core.Bool.{Bool, true, false, _&&_, _||_, true≢false}
+use mathlib.Core.Bool.{Bool, true, false}
 use lib.Dec.{eqb}
 use borrow.Author.Tests.{eqb-true, eqb-false, eq-eqb, ne-eqb}
-use Rattle.model.specs.Base.{upd, upd₂}
-
--- ## Numbers and places
+use Rattle.base.specs.Update.{upd, upd₂}
 
 -- two numbers are the same or not
 pub same? : (q p : ℕ) → (q ≡ p) ⊎ (q ≡ p → ⊥)
@@ -85,34 +83,3 @@ pub upd₂-ext : {A : Type 0} (f k : ℕ → ℕ → A) (p g : ℕ) (x : A) → 
 upd₂-ext f k p g x here other =
     fun-ext (λ q. fun-ext (λ v.
     sym (upd₂-at (λ q v y. y ≡ k q v) f p g x (sym here) (λ q v ne. sym (other q v ne)) q v)))
-
--- ## Bools
-
-pub true-or-false : (b : Bool) → (b ≡ true) ⊎ (b ≡ false)
-true-or-false true = inl refl
-true-or-false false = inr refl
-
-pub not-both : {b : Bool} → b ≡ true → b ≡ false → ⊥
-not-both t f = true≢false (sym t ∙ f)
-
-pub or-cases : (a b : Bool) → (a || b) ≡ true → (a ≡ true) ⊎ (b ≡ true)
-or-cases true b t = inl refl
-or-cases false b t = inr t
-
-pub or-left : (a b : Bool) → a ≡ true → (a || b) ≡ true
-or-left a b t = rw t
-
-pub or-right : (a b : Bool) → b ≡ true → (a || b) ≡ true
-or-right true b t = refl
-or-right false b t = t
-
-pub or-none : (a b : Bool) → (a || b) ≡ false → (a ≡ false) × (b ≡ false)
-or-none true b t = absurd (true≢false t)
-or-none false b t = (refl, t)
-
-pub and-both : (a b : Bool) → (a && b) ≡ true → (a ≡ true) × (b ≡ true)
-and-both true b t = (refl, t)
-and-both false b t = absurd (true≢false (sym t))
-
-pub and-true : (a b : Bool) → a ≡ true → b ≡ true → (a && b) ≡ true
-and-true a b s t = rw (s, t)

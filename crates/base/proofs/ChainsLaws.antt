@@ -1,11 +1,32 @@
--- Chains of refusals, link by link. Assumes nothing.
+-- Laws of the chains of refusals, link by link.
+-- Assumes nothing.
 use Prim.Native.Nat.{ℕ, suc}
-use native.Mathlib.Nat.{suc-ne-zero}
+use native.Mathlib.Omega.{arith}
 use mathlib.Core.Path.{_≡_, refl, ap, _∙_}
 use mathlib.Core.Bool.{Bool, true, false}
 use lib.Dec.{eqb}
-use borrow.Author.Tests.{eq-eqb, ne-eqb}
-use Rattle.model.specs.Base.{refuse, _⨾_}
+use borrow.Author.Tests.{eqb-true, eqb-false, eq-eqb, ne-eqb}
+use Rattle.base.specs.Chains.{refuse, _⨾_}
+use native.Mathlib.Nat.{suc-ne-zero}
+
+-- a condition that refuses with a number above 0 and did not refuse is false
+pub not-refused : (t : Bool) (k : ℕ) → refuse t (suc k) ≡ 0 → t ≡ false
+unfolding refuse
+not-refused true k e = absurd (omega arith)
+not-refused false k e = refl
+
+-- a chain that refuses nothing has no link that refuses
+pub chain-none : (a b : ℕ) → (a ⨾ b) ≡ 0 → (a ≡ 0) × (b ≡ 0)
+unfolding _⨾_
+chain-none a b e = go (eqb a 0) refl e
+  where
+    go : (t : Bool) → eqb a 0 ≡ t → _≡_ {A = ℕ} (elim t [ true ↦ b | false ↦ a ]) 0 → (a ≡ 0) × (b ≡ 0)
+    go true t e = (eqb-true a 0 t, e)
+    go false t e = absurd (eqb-false a 0 t e)
+
+-- the first link of a chain that refuses nothing, and what is left of it
+pub link : (t : Bool) (k b : ℕ) → (refuse t (suc k) ⨾ b) ≡ 0 → (t ≡ false) × (b ≡ 0)
+link t k b e = let both = chain-none (refuse t (suc k)) b e in (not-refused t k (both .0), both .1)
 
 -- a condition that refuses, and one that does not
 pub refuses : (t : Bool) (n k : ℕ) → t ≡ true → refuse t (suc n) ⨾ k ≡ suc n

@@ -1,0 +1,20 @@
+-- Ranges of numbers.
+-- Assumes nothing.
+use Prim.Native.Nat.{ℕ, zero, suc}
+use mathlib.Core.Bool.{Bool, _&&_}
+use mathlib.Core.List.{List, [], _∷_, _++_}
+use lib.Dec.{leb}
+
+-- is x in the range low to high?
+unfoldable pub within : ℕ → ℕ → ℕ → Bool
+within low high x = leb low x && leb x high
+
+-- recorders 1 to n, rising
+unfoldable pub recorders : ℕ → List ℕ
+recorders zero = []
+recorders (suc n) = recorders n ++ (suc n ∷ [])
+
+-- keys s, s + 1, .., n of them
+unfoldable pub numbers : ℕ → ℕ → List ℕ
+numbers s zero = []
+numbers s (suc n) = s ∷ numbers (suc s) n

@@ -1,0 +1,3 @@
+pub mod FullOrder
+pub mod Labels
+pub mod Waiting
