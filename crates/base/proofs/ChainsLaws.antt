@@ -2,8 +2,9 @@
 -- Assumes nothing.
 use Prim.Native.Nat.{ℕ, suc}
 use native.Mathlib.Omega.{arith}
-use mathlib.Core.Path.{_≡_, refl, ap, _∙_}
+use mathlib.Core.Path.{_≡_, refl, sym, ap, _∙_}
 use mathlib.Core.Bool.{Bool, true, false}
+use mathlib.Core.Logic.{_⊎_, ⊎-elim}
 use lib.Dec.{eqb}
 use borrow.Author.Tests.{eqb-true, eqb-false, eq-eqb, ne-eqb}
 use Rattle.base.specs.Chains.{refuse, _⨾_}
@@ -56,3 +57,24 @@ chain-assoc p q r = go (eqb p 0) refl
         (elim t [ true ↦ elim (eqb q 0) [ true ↦ r | false ↦ q ] | false ↦ p ])
     go true t = refl
     go false t = rw t
+
+-- ## Chains that refuse with one number alone
+
+-- m refuses nothing, or with n
+abbrev pub NoneBut : ℕ → ℕ → Type 0
+NoneBut n m = (m ≡ 0) ⊎ (m ≡ n)
+
+-- a condition that would refuse with another number is false
+pub not-refused-but : (n : ℕ) (t : Bool) (k : ℕ) → eqb (suc k) n ≡ false → NoneBut n (refuse t (suc k)) → t ≡ false
+unfolding refuse
+not-refused-but n true k ne e = absurd (⊎-elim (λ z. suc-ne-zero k z) (eqb-false (suc k) n ne) e)
+not-refused-but n false k ne e = refl
+
+-- so is the first link of such a chain, and what is left of it is such a chain
+pub link-but : (n : ℕ) (t : Bool) (k b : ℕ) → eqb (suc k) n ≡ false → NoneBut n (refuse t (suc k) ⨾ b) → (t ≡ false) × NoneBut n b
+unfolding refuse _⨾_
+link-but n true k b ne e =
+    let s = ne-eqb (suc k) 0 (λ z. suc-ne-zero k z) in
+    let r : refuse true (suc k) ⨾ b ≡ suc k = rw (s, _⨾_) in
+    absurd (⊎-elim (λ z. suc-ne-zero k (sym r ∙ z)) (λ z. eqb-false (suc k) n ne (sym r ∙ z)) e)
+link-but n false k b ne e = (refl, e)

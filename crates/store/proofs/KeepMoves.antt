@@ -17,11 +17,12 @@ use Rattle.model.specs.Hall.{maxEntries, maxSequence, maxBuffer, maxOrder, maxN
 use Rattle.model.specs.Fields.{setPending, setQueue, setNext, setNextSafe, setService, setRecorders, setSafe}
 use Rattle.model.specs.Service.{exceedsCreated, createview, newview, gpsnd, vsOrder, gprcv, safe}
 use Rattle.model.specs.Ordering.{Choice, shortorder, fullorder, builtOrder, builtHigh, maxprimary, maxnextconfirm, labelled, sentEntry, summaryOf, sentSummary, entered, heardSummary, established, completes, heardSources, confirmed, reported}
-use Rattle.model.specs.Refusals.{Rules, isPrimary, summariesOf, orderFull, builtTooLong, noRoomToReceive}
+use Rattle.model.specs.Refusals.{Rules, isPrimary, summariesOf, orderFull, builtTooLong, noRoomToReceive, sequenceFull, bufferFull, newLabelExists, summaryPlaceFull, pendingFull, queueFull}
+use Rattle.model.proofs.Accepting.Room.{isFull, Fits}
 use Rattle.model.specs.Actions.{doSubmit, doForm}
 use Rattle.model.proofs.Accepting.Moves.{current, membersOf, At, queued, CanLabel, afterLabel, CanSendEntry, afterSendEntry, CanSendSummary, afterSendSummary, CanForm, CanEnter, afterEnter, CanOrder, afterOrder, CanReceive, afterReceive, learnt, joined, told, CanNotice, afterNotice, safeFrom, builtAt, heardOrder, CanConfirm, CanDeliver, Move, submits, labels, sendsEntry, sendsSummary, forms, enters, orders, receives, receivesPrimary, hears, hearsLast, notices, noticesPrimary, noticesSummary, noticesLast, confirms, delivers}
 use Rattle.base.proofs.UpdateLaws.{at-place₂, upd-at, upd-at-both, upd₂-same, upd₂-other, upd₂-at}
-use Rattle.base.proofs.Bools.{not-both, and-true}
+use Rattle.base.proofs.Bools.{not-both, and-true, or-none}
 use Rattle.model.proofs.ServiceLaws.{order-queue, order-pending}
 use Rattle.model.proofs.Ordering.Waiting.{first-waiting}
 use Rattle.model.proofs.Ordering.FullOrder.{known-from, full-in}
@@ -143,16 +144,19 @@ module _ (h : Hall) (f : Facts h) where
         nextSafe = f .nextSafe;
       }
 
-  keep-label : (r e : ℕ) → CanLabel h r e → Facts (afterLabel h r e)
-  unfolding labelled upd₂
-  keep-label r e c =
+  keep-label : (r e : ℕ) → CanLabel h r e → (sequenceFull h r || (bufferFull h r || newLabelExists h r)) ≡ false
+      → Facts (afterLabel h r e)
+  unfolding labelled upd₂ sequenceFull bufferFull newLabelExists
+  keep-label r e c room =
+      let free = or-none (sequenceFull h r) (bufferFull h r || newLabelExists h r) room in
+      let more = or-none (bufferFull h r) (newLabelExists h r) (free .1) in
       let g = current h r in
       let k = h .recorders .nextSeq r in
       let i = here-in h f r (c .inView) .0 in
       let first = first-waiting (h .entries) r e (c .others) (c .first) in
       let view : Between 1 maxNumber g = (c .inView, view-in h f r (c .inView)) in
-      let seq : Between 1 maxSequence k = (f .recorders .nextSeq .holds r .0, c .seqFits) in
-      let es = label-keeps (h .size) (h .entries) (f .entries) r e g k first view seq (c .fresh) in
+      let seq : Between 1 maxSequence k = (f .recorders .nextSeq .holds r .0, ltb-false _ _ (free .0)) in
+      let es = label-keeps (h .size) (h .entries) (f .entries) r e g k first view seq (more .1) in
       let gr = entries-grow _ (es .1) in
       let rs = recorders-grow gr (f .recorders) in
       record {
@@ -162,7 +166,7 @@ module _ (h : Hall) (f : Facts h) where
         recorders =
             at-known
             (at-buffer (at-nextSeq rs i (k + 1) (omega (arith, seq))) i _
-            (within-push _ maxBuffer (h .recorders .buffer r) e (c .bufferFits) (rs .buffer .holds r) (es .2)))
+            (within-push _ maxBuffer (h .recorders .buffer r) e (leb-false _ _ (more .0)) (rs .buffer .holds r) (es .2)))
             i _ (names-more _ (h .recorders .known r) e (rs .known .holds r) (es .2));
         sources = f .sources;
         sums = sums-grow gr (f .sums);
@@ -171,21 +175,21 @@ module _ (h : Hall) (f : Facts h) where
         nextSafe = f .nextSafe;
       }
 
-  keep-send-entry : (r e : ℕ) → CanSendEntry h r e → Facts (afterSendEntry h r e)
-  unfolding gpsnd sentEntry
-  keep-send-entry r e c =
+  keep-send-entry : (r e : ℕ) → CanSendEntry h r e → pendingFull h r ≡ false → Facts (afterSendEntry h r e)
+  unfolding gpsnd sentEntry pendingFull
+  keep-send-entry r e c room =
       let listed = f .recorders .buffer .holds r in
       with-service _
       (with-recorders h f _
       (at-buffer (f .recorders) (here-in h f r (c .inView) .0) _ (listed-rest _ (h .recorders .buffer r) listed)) (f .sources))
       _ _ _ _
       (at-pending (f .traffic) r (current h r) (entry e)
-      (here-member h f r (c .inView), listed-names _ (h .recorders .buffer r) listed e (ap (λ l. has l e) (c .head) ∙ has-head e (c .others))) (c .pendingFits))
+      (here-member h f r (c .inView), listed-names _ (h .recorders .buffer r) listed e (ap (λ l. has l e) (c .head) ∙ has-head e (c .others))) (leb-false _ _ room))
       (f .next) (f .nextSafe)
 
-  keep-send-summary : (r : ℕ) → CanSendSummary h r → Facts (afterSendSummary h r)
-  unfolding gpsnd sentSummary summaryOf
-  keep-send-summary r c =
+  keep-send-summary : (r : ℕ) → CanSendSummary h r → (summaryPlaceFull h r || pendingFull h r) ≡ false → Facts (afterSendSummary h r)
+  unfolding gpsnd sentSummary summaryOf pendingFull
+  keep-send-summary r c room =
       let g = current h r in
       let x = h .summaries in
       let rs = f .recorders in
@@ -218,7 +222,8 @@ module _ (h : Hall) (f : Facts h) where
               })
               (λ p v ne. f .sums .summary p v);
         };
-        traffic = at-pending (traffic-grow gr (f .traffic)) r g summary (mine, upd₂-same (x .sent) r g true) (c .pendingFits);
+        traffic = at-pending (traffic-grow gr (f .traffic)) r g summary (mine, upd₂-same (x .sent) r g true)
+            (leb-false _ _ (or-none (summaryPlaceFull h r) (pendingFull h r) room .1));
         next = f .next;
         nextSafe = f .nextSafe;
       }
@@ -275,14 +280,14 @@ module _ (h : Hall) (f : Facts h) where
         nextSafe = f .nextSafe;
       }
 
-  keep-order : (r a : ℕ) (m : Message) → CanOrder h r a m → Facts (afterOrder h r a)
-  unfolding vsOrder
-  keep-order r a m c =
+  keep-order : (r a : ℕ) (m : Message) → CanOrder h r a m → queueFull h a ≡ false → Facts (afterOrder h r a)
+  unfolding vsOrder queueFull
+  keep-order r a m c room =
       with-service h f _ _ _ _
       (subst₂ (TrafficFacts (h .entries) (membersOf h) (h .summaries .sent))
       (sym (order-pending (h .service) r a m (c .others) (c .head)))
       (sym (order-queue (h .service) r a m (c .others) (c .head)))
-      (at-queue (f .traffic) r a m (c .others) (c .head) (c .queueFits)))
+      (at-queue (f .traffic) r a m (c .others) (c .head) (leb-false _ _ room)))
       (f .next) (f .nextSafe)
 
   -- what r receives, or has notice of, is at its mark
@@ -328,26 +333,26 @@ module _ (rules : Rules) (h : Hall) (f : Facts h) (r q : ℕ) where
   learnt-facts e i n =
       at-known (f .recorders) i _ (names-more _ (h .recorders .known r) e (f .recorders .known .holds r) n)
 
-  keep-learnt : (e : ℕ) → CanReceive rules h r q (entry e) → Facts (afterReceive h r (learnt h r e))
+  keep-learnt : (e : ℕ) → CanReceive h r q (entry e) → Facts (afterReceive h r (learnt h r e))
   keep-learnt e c =
       keep-receive h f r (queued q (entry e)) (c .inView) _
       (learnt-facts e (here-in h f r (c .inView) .0) (arrived h f _ _ _ (c .here) .1)) (f .sources) (c .here)
 
   -- and joins the order of a primary view
-  keep-joined : (e : ℕ) → CanReceive rules h r q (entry e) → isPrimary rules h (current h r) ≡ true
-      → Facts (afterReceive h r (joined h r e))
+  keep-joined : (e : ℕ) → CanReceive h r q (entry e) → isPrimary rules h (current h r) ≡ true
+      → noRoomToReceive rules h r (queued q (entry e)) ≡ false → Facts (afterReceive h r (joined h r e))
   unfolding noRoomToReceive orderFull
-  keep-joined e c primary =
+  keep-joined e c primary room =
       let i = here-in h f r (c .inView) .0 in
       let n = arrived h f _ _ (queued q (entry e)) (c .here) .1 in
       keep-receive h f r (queued q (entry e)) (c .inView) _
       (at-order (learnt-facts e i n) i _
       (within-push _ maxOrder (h .recorders .order r) e
-      (leb-false _ _ (second (isPrimary rules h (current h r)) _ (c .room) primary)) (f .recorders .order .holds r) n))
+      (leb-false _ _ (second (isPrimary rules h (current h r)) _ room primary)) (f .recorders .order .holds r) n))
       (f .sources) (c .here)
 
   -- a summary is heard
-  module _ (c : CanReceive rules h r q summary) where
+  module _ (c : CanReceive h r q summary) where
     abbrev at : Between 1 (h .size) r
     at = here-in h f r (c .inView) .0
 
@@ -374,9 +379,10 @@ module _ (rules : Rules) (h : Hall) (f : Facts h) (r q : ℕ) where
 
     -- the last one: the order is built
     keep-built : completes r (membersOf h (current h r)) (told h r q) ≡ true
+        → noRoomToReceive rules h r (queued q summary) ≡ false
         → Facts (afterReceive h r (builtAt rules h r (told h r q) (current h r)))
     unfolding established heardSummary noRoomToReceive builtTooLong summariesOf
-    keep-built last =
+    keep-built last room =
         let g = current h r in
         let y = summariesOf h g in
         let ok : (q : ℕ) → SummaryFacts (h .entries) (y q) = λ q. f .sums .summary q g in
@@ -388,7 +394,7 @@ module _ (rules : Rules) (h : Hall) (f : Facts h) (r q : ℕ) where
         (at-order
         (at-high (at-phase told-facts at normal) at _ (built-high rep (h .entries) ms y ok primary g (view-in h f r (c .inView))))
         at _ (
-          ltb-false _ _ (second (completes r ms (told h r q)) _ (c .room) last),
+          ltb-false _ _ (second (completes r ms (told h r q)) _ room last),
           names-listed (h .entries) _ (built-names rep (h .entries) ms y ok primary),
         ))
         at _ (built-confirm rep (h .entries) ms y ok r (here-member h f r (c .inView))))
@@ -431,23 +437,25 @@ module _ (rules : Rules) (h : Hall) (f : Facts h) (r q : ℕ) where
         (λ q. f .sums .summary q g))))
         safe-sources (c .here)
 
--- every move keeps the facts, if values stay below 2 ^ 32
-pub facts-keep : (rules : Rules) (h h′ : Hall) → Move rules h h′ → ((e : ℕ) → h′ .entries .value e < 2 ^ 32) → Facts h → Facts h′
-facts-keep rules h _ (submits r a low high room) values f = keep-submit h f r a (low, high) room values
-facts-keep rules h _ (labels r e c) values f = keep-label h f r e c
-facts-keep rules h _ (sendsEntry r e c) values f = keep-send-entry h f r e c
-facts-keep rules h _ (sendsSummary r c) values f = keep-send-summary h f r c
-facts-keep rules h _ (forms a b c) values f = keep-form h f a b c
-facts-keep rules h _ (enters r a c) values f = keep-enter h f r a c
-facts-keep rules h _ (orders r a m c) values f = keep-order h f r a m c
-facts-keep rules h _ (receives r q e c t) values f = keep-learnt rules h f r q e c
-facts-keep rules h _ (receivesPrimary r q e c t) values f = keep-joined rules h f r q e c t
-facts-keep rules h _ (hears r q c t) values f = keep-told rules h f r q c
-facts-keep rules h _ (hearsLast r q c t) values f = keep-built rules h f r q c t
-facts-keep rules h _ (notices r q e c t) values f =
+-- every move for which there is room keeps the facts, if values stay below 2 ^ 32
+pub facts-keep : (rules : Rules) (h h′ : Hall) (m : Move rules h h′) → Fits m → ((e : ℕ) → h′ .entries .value e < 2 ^ 32)
+    → Facts h → Facts h′
+unfolding Fits isFull
+facts-keep rules h _ (submits r a low high more) room values f = keep-submit h f r a (low, high) more values
+facts-keep rules h _ (labels r e c) room values f = keep-label h f r e c room
+facts-keep rules h _ (sendsEntry r e c) room values f = keep-send-entry h f r e c room
+facts-keep rules h _ (sendsSummary r c) room values f = keep-send-summary h f r c room
+facts-keep rules h _ (forms a b c) room values f = keep-form h f a b c
+facts-keep rules h _ (enters r a c) room values f = keep-enter h f r a c
+facts-keep rules h _ (orders r a m c) room values f = keep-order h f r a m c room
+facts-keep rules h _ (receives r q e c t) room values f = keep-learnt rules h f r q e c
+facts-keep rules h _ (receivesPrimary r q e c t) room values f = keep-joined rules h f r q e c t room
+facts-keep rules h _ (hears r q c t) room values f = keep-told rules h f r q c
+facts-keep rules h _ (hearsLast r q c t) room values f = keep-built rules h f r q c t room
+facts-keep rules h _ (notices r q e c t) room values f =
     keep-notice h f r (queued q (entry e)) (c .inView) (h .recorders) (f .recorders) (f .sources) (c .here)
-facts-keep rules h _ (noticesPrimary r q e c t) values f = keep-safe rules h f r q e c
-facts-keep rules h _ (noticesSummary r q c t) values f = keep-source rules h f r q c
-facts-keep rules h _ (noticesLast r q c t u) values f = keep-all-safe rules h f r q c
-facts-keep rules h _ (confirms r c) values f = keep-confirm h f r c
-facts-keep rules h _ (delivers r c) values f = keep-deliver h f r c
+facts-keep rules h _ (noticesPrimary r q e c t) room values f = keep-safe rules h f r q e c
+facts-keep rules h _ (noticesSummary r q c t) room values f = keep-source rules h f r q c
+facts-keep rules h _ (noticesLast r q c t u) room values f = keep-all-safe rules h f r q c
+facts-keep rules h _ (confirms r c) room values f = keep-confirm h f r c
+facts-keep rules h _ (delivers r c) room values f = keep-deliver h f r c
