@@ -9,7 +9,7 @@ use lib.Dec.{eqb, leb}
 use borrow.Author.Tests.{eqb-true, eqb-false, leb-true}
 use lib.ListN.{length}
 use Rattle.base.specs.Lists.{filter, has, rising}
-use Rattle.base.specs.Numbers.{within, recorders, numbers}
+use Rattle.base.specs.Numbers.{within, upTo, numbers}
 use Rattle.base.proofs.Bools.{and-both, by-cases}
 use Rattle.base.proofs.ListsLaws.{has-here, has-there, has-append, in-filter, rising-cons, rising-append}
 
@@ -19,36 +19,36 @@ within-both low high x e =
     let both = and-both (leb low x) (leb x high) e in
     (leb-true low x (both .0), leb-true x high (both .1))
 
-pub has-recorders : (n k : ℕ) → 1 ≤ k → k ≤ n → has (recorders n) k ≡ true
-unfolding recorders
-has-recorders zero k low high = absurd (omega arith)
-has-recorders (suc n) k low high = has-append (recorders n) (suc n ∷ []) k ∙ go (eqb k (suc n)) refl (has-recorders n k low)
+pub has-upTo : (n k : ℕ) → 1 ≤ k → k ≤ n → has (upTo n) k ≡ true
+unfolding upTo
+has-upTo zero k low high = absurd (omega arith)
+has-upTo (suc n) k low high = has-append (upTo n) (suc n ∷ []) k ∙ go (eqb k (suc n)) refl (has-upTo n k low)
   where
-    go : (t : Bool) → eqb k (suc n) ≡ t → (k ≤ n → has (recorders n) k ≡ true) → (has (recorders n) k || has (suc n ∷ []) k) ≡ true
-    go true e ih = rw has-here (or-true (has (recorders n) k))
+    go : (t : Bool) → eqb k (suc n) ≡ t → (k ≤ n → has (upTo n) k ≡ true) → (has (upTo n) k || has (suc n ∷ []) k) ≡ true
+    go true e ih = rw has-here (or-true (has (upTo n) k))
     go false e ih = rw (ih (omega (arith, eqb-false k (suc n) e)))
 
-pub recorders-range : (n k : ℕ) → has (recorders n) k ≡ true → (1 ≤ k) × (k ≤ n)
-unfolding recorders has
-recorders-range zero k h = absurd (false≢true h)
-recorders-range (suc n) k h = go (eqb k (suc n)) refl (recorders-range n k)
+pub upTo-range : (n k : ℕ) → has (upTo n) k ≡ true → (1 ≤ k) × (k ≤ n)
+unfolding upTo has
+upTo-range zero k h = absurd (false≢true h)
+upTo-range (suc n) k h = go (eqb k (suc n)) refl (upTo-range n k)
   where
-    go : (t : Bool) → eqb k (suc n) ≡ t → (has (recorders n) k ≡ true → (1 ≤ k) × (k ≤ n)) → (1 ≤ k) × (k ≤ suc n)
+    go : (t : Bool) → eqb k (suc n) ≡ t → (has (upTo n) k ≡ true → (1 ≤ k) × (k ≤ n)) → (1 ≤ k) × (k ≤ suc n)
     go true e ih = omega (arith, eqb-true k (suc n) e)
     go false e ih =
         let r = ih (rw (has-append, has-there, or-false) at h) in
         omega arith
 
 -- a test that drops no recorder of 1 to n holds of each
-pub all-recorders : (p : ℕ → Bool) (n : ℕ) → filter p (recorders n) ≡ recorders n → (k : ℕ) → 1 ≤ k → k ≤ n → p k ≡ true
-all-recorders p n e k low high =
-    in-filter p (recorders n) k .0 (ap (λ (l : List ℕ). has l k) e ∙ has-recorders n k low high) .1
+pub all-upTo : (p : ℕ → Bool) (n : ℕ) → filter p (upTo n) ≡ upTo n → (k : ℕ) → 1 ≤ k → k ≤ n → p k ≡ true
+all-upTo p n e k low high =
+    in-filter p (upTo n) k .0 (ap (λ (l : List ℕ). has l k) e ∙ has-upTo n k low high) .1
 
-pub rising-recorders : (n : ℕ) → rising 0 (recorders n) ≡ true
-unfolding recorders rising
-rising-recorders zero = refl
-rising-recorders (suc n) =
-    rising-append 0 n (recorders n) (suc n ∷ []) (omega arith) (λ x h. recorders-range n x h .1) (rising-recorders n)
+pub rising-upTo : (n : ℕ) → rising 0 (upTo n) ≡ true
+unfolding upTo rising
+rising-upTo zero = refl
+rising-upTo (suc n) =
+    rising-append 0 n (upTo n) (suc n ∷ []) (omega arith) (λ x h. upTo-range n x h .1) (rising-upTo n)
     (rising-cons n (suc n) [] .1 (omega arith, refl))
 
 pub length-numbers : (s n : ℕ) → length (numbers s n) ≡ n

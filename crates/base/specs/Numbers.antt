@@ -9,10 +9,10 @@ use lib.Dec.{leb}
 unfoldable pub within : ℕ → ℕ → ℕ → Bool
 within low high x = leb low x && leb x high
 
--- recorders 1 to n, rising
-unfoldable pub recorders : ℕ → List ℕ
-recorders zero = []
-recorders (suc n) = recorders n ++ (suc n ∷ [])
+-- the numbers 1 to n, rising
+unfoldable pub upTo : ℕ → List ℕ
+upTo zero = []
+upTo (suc n) = upTo n ++ (suc n ∷ [])
 
 -- keys s, s + 1, .., n of them
 unfoldable pub numbers : ℕ → ℕ → List ℕ

@@ -21,9 +21,9 @@ use Rattle.codec.specs.Pair.{given}
 use Rattle.codec.specs.Cells.{cells}
 use Rattle.codec.proofs.Blank.{Blank, blank-number, blank-flag, blank-given, blank-cells, blank-bounded}
 use Rattle.codec.specs.Table.{table, flags}
-use Rattle.base.specs.Numbers.{numbers, recorders}
+use Rattle.base.specs.Numbers.{numbers, upTo}
 use Rattle.codec.proofs.TableLaws.{all-keys}
-use Rattle.base.proofs.NumbersLaws.{length-numbers, recorders-range, rising-recorders}
+use Rattle.base.proofs.NumbersLaws.{length-numbers, upTo-range, rising-upTo}
 use Rattle.codec.proofs.SliceLaws.{sets-append-left}
 use Rattle.base.specs.Lists.{filter, has, rising}
 use Rattle.quorum.specs.Sets.{inMask, members, mask}
@@ -63,12 +63,12 @@ use Rattle.opening.specs.Opened.{founderMask, hallWith, begun, startOf, 
 
 -- ## The founders' mask
 
-all-mask : (n : ℕ) → mask (recorders n) + 1 ≡ 2 ^ n
-unfolding recorders mask
+all-mask : (n : ℕ) → mask (upTo n) + 1 ≡ 2 ^ n
+unfolding upTo mask
 all-mask zero = refl
 all-mask (suc n) =
     let e : suc n - 1 ≡ n = omega arith in
-    omega (arith, mask-append (recorders n) (suc n ∷ []), all-mask n, ap (λ (k : ℕ). 2 ^ k) e)
+    omega (arith, mask-append (upTo n) (suc n ∷ []), all-mask n, ap (λ (k : ℕ). 2 ^ k) e)
 
 pub founder-set : (o : Opening) → founderSet o ≡ members (o .size) (founderMask o)
 unfolding founderSet founderMask
@@ -77,11 +77,11 @@ founder-set o = go (eqb (o .founders) 0)
     n : ℕ
     n = o .size
 
-    go : (t : Bool) → _≡_ {A = List ℕ} (elim t [ true ↦ recorders n | false ↦ members n (o .founders) ])
+    go : (t : Bool) → _≡_ {A = List ℕ} (elim t [ true ↦ upTo n | false ↦ members n (o .founders) ])
         (members n (elim t [ true ↦ 2 ^ n - 1 | false ↦ o .founders ]))
     go true =
-        let e : mask (recorders n) ≡ 2 ^ n - 1 = omega (arith, all-mask n) in
-        sym (members-mask n (recorders n) (rising-recorders n, recorders-range n)) ∙ ap (members n) e
+        let e : mask (upTo n) ≡ 2 ^ n - 1 = omega (arith, all-mask n) in
+        sym (members-mask n (upTo n) (rising-upTo n, upTo-range n)) ∙ ap (members n) e
     go false = refl
 
 pub founder-mask-in : (o : Opening) → 1 ≤ o .size → o .founders < 2 ^ o .size
@@ -105,16 +105,16 @@ unfolding begun hallWith opened openHall openService
 begun-opened o = ap (openHall (o .size)) (sym (founder-set o))
 
 pub begun-none : (n m : ℕ) → setService (createview 1 (members n m) (blankHall n .service)) (blankHall n) ≡ begun n m 0
-unfolding begun hallWith blankHall createview openService members recorders filter
+unfolding begun hallWith blankHall createview openService members upTo filter
 begun-none n m = refl
 
 -- one recorder more
 members-other : (k m q : ℕ) → (q ≡ suc k → ⊥) → has (members (suc k) m) q ≡ has (members k m) q
-unfolding members recorders has
+unfolding members upTo has
 members-other k m q ne =
-    has-filter (inMask m) (recorders (suc k)) q
-    ∙ ap (λ (t : Bool). t && inMask m q) (has-append (recorders k) (suc k ∷ []) q ∙ ap (λ (t : Bool). has (recorders k) q || t) (has-there (suc k) [] q (ne-eqb q (suc k) ne)) ∙ or-false (has (recorders k) q))
-    ∙ sym (has-filter (inMask m) (recorders k) q)
+    has-filter (inMask m) (upTo (suc k)) q
+    ∙ ap (λ (t : Bool). t && inMask m q) (has-append (upTo k) (suc k ∷ []) q ∙ ap (λ (t : Bool). has (upTo k) q || t) (has-there (suc k) [] q (ne-eqb q (suc k) ne)) ∙ or-false (has (upTo k) q))
+    ∙ sym (has-filter (inMask m) (upTo k) q)
 
 first-more : (n m k : ℕ) → k < n → firstView (members (suc k) m) ≡ upd (firstView (members k m)) (suc k) (firstView (members n m) (suc k))
 unfolding firstView

@@ -7,7 +7,7 @@ use lib.Dec.{eqb}
 use lib.ListN.{length}
 use lib.Seq.{sets}
 use Rattle.base.specs.Update.{upd}
-use Rattle.base.specs.Numbers.{recorders}
+use Rattle.base.specs.Numbers.{upTo}
 use Rattle.quorum.specs.Sets.{members}
 use Rattle.model.specs.Hall.{Hall, maxRecorders}
 use Rattle.model.specs.Fields.{setCreated, setMembers}

@@ -11,11 +11,11 @@ use borrow.Author.Tests.{eqb-true, eqb-false}
 use lib.Arith.{mod-mul}
 use lib.Dec.{eqb}
 use lib.Pow.{pow-pos}
-use Rattle.base.specs.Numbers.{recorders}
+use Rattle.base.specs.Numbers.{upTo}
 use Rattle.base.specs.Lists.{filter, has, rising, bit, count}
 use Rattle.quorum.specs.Sets.{inMask, members, mask}
 use Rattle.base.proofs.ListsLaws.{has-head, filter-in, filter-out, has-filter, in-filter, filter-append, rising-filter, rising-once}
-use Rattle.base.proofs.NumbersLaws.{has-recorders, recorders-range, rising-recorders}
+use Rattle.base.proofs.NumbersLaws.{has-upTo, upTo-range, rising-upTo}
 
 -- ---- the head of a list
 
@@ -25,11 +25,11 @@ use Rattle.base.proofs.NumbersLaws.{has-recorders, recorders-range, rising-reco
 
 pub has-members : (n b k : ℕ) → 1 ≤ k → k ≤ n → has (members n b) k ≡ inMask b k
 unfolding members
-has-members n b k low high = has-filter (inMask b) (recorders n) k ∙ rw (has-recorders n k low high)
+has-members n b k low high = has-filter (inMask b) (upTo n) k ∙ rw (has-upTo n k low high)
 
 pub members-range : (n b k : ℕ) → has (members n b) k ≡ true → (1 ≤ k) × (k ≤ n)
 unfolding members
-members-range n b k h = recorders-range n k (in-filter (inMask b) (recorders n) k .0 h .0)
+members-range n b k h = upTo-range n k (in-filter (inMask b) (upTo n) k .0 h .0)
 
 pub has-members-above : (n b k : ℕ) → (k ≡ 0) ⊎ (n < k) → has (members n b) k ≡ false
 has-members-above n b k out = go (has (members n b) k) refl
@@ -70,10 +70,10 @@ mod-pow-suc b n = ap (λ (m : ℕ). b % m) (pow-succ' 2 n) ∙ mod-mul b (omega 
 
 -- the members within 1 to n carry the lowest n bits
 pub mask-members-mod : (n b : ℕ) → mask (members n b) ≡ b % 2 ^ n
-unfolding mask members recorders filter
+unfolding mask members upTo filter
 mask-members-mod zero b = sym (mod-one b)
 mask-members-mod (suc n) b =
-    ap mask (filter-append (inMask b) (recorders n) (suc n ∷ []))
+    ap mask (filter-append (inMask b) (upTo n) (suc n ∷ []))
     ∙ mask-append (members n b) (filter (inMask b) (suc n ∷ []))
     ∙ omega (arith, mask-members-mod n b, mask-bit b n, mod-pow-suc b n)
 
@@ -92,7 +92,7 @@ members-nonempty n b h pos = go (members n b) refl
 
 pub rising-members : (n b : ℕ) → rising 0 (members n b) ≡ true
 unfolding members
-rising-members n b = rising-filter (inMask b) 0 (recorders n) (rising-recorders n)
+rising-members n b = rising-filter (inMask b) 0 (upTo n) (rising-upTo n)
 
 pub members-once : (n b x : ℕ) → count (members n b) x ≡ bit (has (members n b) x)
 members-once n b = rising-once 0 (members n b) (rising-members n b)

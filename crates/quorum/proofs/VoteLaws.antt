@@ -8,11 +8,11 @@ use mathlib.Core.Logic.{_⊎_, inl, inr, ⊎-elim}
 use mathlib.Core.Path.{_≡_, refl, sym, ap, _∙_}
 use borrow.Author.Tests.{leb-true, eqb-true}
 use lib.Dec.{eqb, ltb}
-use Rattle.base.specs.Numbers.{recorders}
+use Rattle.base.specs.Numbers.{upTo}
 use Rattle.base.specs.Lists.{filter, has}
 use Rattle.quorum.specs.Sets.{inMask, members}
 use Rattle.quorum.proofs.SetLaws.{has-members}
-use Rattle.base.proofs.NumbersLaws.{all-recorders}
+use Rattle.base.proofs.NumbersLaws.{all-upTo}
 use Rattle.quorum.specs.Votes.{votes, total, quorum, share, builtIn, rowOf, builtInRow}
 
 -- ---- one recorder more
@@ -105,14 +105,14 @@ quorum-test row n s e f = cc
 
 -- 255 is the mask of all
 pub votes-all : (row : ℕ → ℕ) (n : ℕ) → n ≤ 8 → votes row n (inMask 255) ≡ total row n
-unfolding total inMask filter recorders
+unfolding total inMask filter upTo
 votes-all row n h =
-    votes-same row n (inMask 255) (λ k. true) (λ k low high. all-recorders (inMask 255) 8 refl k low (omega arith))
+    votes-same row n (inMask 255) (λ k. true) (λ k low high. all-upTo (inMask 255) 8 refl k low (omega arith))
 
 pub built-in-row : Same 8 (rowOf builtInRow) builtIn
-unfolding rowOf builtIn filter recorders
+unfolding rowOf builtIn filter upTo
 built-in-row k low high =
-    eqb-true _ _ (all-recorders (λ j. eqb (rowOf builtInRow j) (builtIn j)) 8 refl k low high)
+    eqb-true _ _ (all-upTo (λ j. eqb (rowOf builtInRow j) (builtIn j)) 8 refl k low high)
 
 pub quorum-built-in : (n : ℕ) (s : ℕ → Bool) → n ≤ 8 → quorum (rowOf builtInRow) n s ≡ quorum builtIn n s
 quorum-built-in n s h =

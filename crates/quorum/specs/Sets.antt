@@ -5,7 +5,7 @@ use mathlib.Core.Bool.{Bool}
 use mathlib.Core.List.{List, [], _∷_}
 use Rattle.base.specs.Lists.{filter}
 use lib.Dec.{eqb}
-use Rattle.base.specs.Numbers.{recorders}
+use Rattle.base.specs.Numbers.{upTo}
 
 -- is recorder k in the set with mask b? bit k-1 says
 unfoldable pub inMask : ℕ → ℕ → Bool
@@ -13,7 +13,7 @@ inMask b k = eqb (b / 2 ^ (k - 1) % 2) 1
 
 -- the members, within 1 to n, of the set with mask b, rising
 unfoldable pub members : ℕ → ℕ → List ℕ
-members n b = filter (inMask b) (recorders n)
+members n b = filter (inMask b) (upTo n)
 
 -- the mask of the set of the listed recorders (each listed once)
 unfoldable pub mask : List ℕ → ℕ

@@ -12,9 +12,9 @@ use Rattle.codec.specs.Bytes.{part}
 use Rattle.codec.proofs.BytesLaws.{part-rest}
 use Rattle.base.proofs.Bools.{by-cases}
 use Rattle.base.specs.Lists.{has, all}
-use Rattle.base.specs.Numbers.{recorders}
+use Rattle.base.specs.Numbers.{upTo}
 use Rattle.base.proofs.ListsLaws.{has-head, has-later, has-cons, has-there}
-use Rattle.base.proofs.NumbersLaws.{has-recorders}
+use Rattle.base.proofs.NumbersLaws.{has-upTo}
 use Rattle.store.specs.Layout.{viewSize, viewCells}
 use Rattle.ranges.specs.TableParts.{viewNumbers}
 use Rattle.validity.specs.Alls.{viewAt}
@@ -44,27 +44,27 @@ module _ (p : ℕ → Bool) where
   all-true (x ∷ xs) h = ap₂ _&&_ (h x (has-head x xs)) (all-true xs (λ y k. h y (has-later x xs y k)))
 
   -- a loop over 1 .. m that has passed j numbers
-  pub all-none : all p (recorders 0) ≡ true
-  unfolding all recorders
+  pub all-none : all p (upTo 0) ≡ true
+  unfolding all upTo
   all-none = refl
 
-  pub all-next : (j : ℕ) → all p (recorders j) ≡ true → p (j + 1) ≡ true → all p (recorders (j + 1)) ≡ true
-  unfolding all recorders
+  pub all-next : (j : ℕ) → all p (upTo j) ≡ true → p (j + 1) ≡ true → all p (upTo (j + 1)) ≡ true
+  unfolding all upTo
   all-next j a h =
-      ap (λ (i : ℕ). all p (recorders i)) (add-one j)
-      ∙ all-append (recorders j) (suc j ∷ [])
+      ap (λ (i : ℕ). all p (upTo i)) (add-one j)
+      ∙ all-append (upTo j) (suc j ∷ [])
       ∙ ap₂ _&&_ a (and-true (p (suc j)) ∙ ap p (sym (add-one j)) ∙ h)
 
-  pub all-fail : (m j : ℕ) → j < m → p (j + 1) ≡ false → all p (recorders m) ≡ false
+  pub all-fail : (m j : ℕ) → j < m → p (j + 1) ≡ false → all p (upTo m) ≡ false
   all-fail m j l h =
-      by-cases (all p (recorders m))
-      (λ a. absurd (false≢true (sym h ∙ all-at (recorders m) (j + 1) a (has-recorders m (j + 1) (omega arith) (omega arith)))))
+      by-cases (all p (upTo m))
+      (λ a. absurd (false≢true (sym h ∙ all-at (upTo m) (j + 1) a (has-upTo m (j + 1) (omega arith) (omega arith)))))
       (λ a. a)
 
-  pub all-done : (m j : ℕ) → j ≤ m → m ≤ j → all p (recorders j) ≡ true → all p (recorders m) ≡ true
+  pub all-done : (m j : ℕ) → j ≤ m → m ≤ j → all p (upTo j) ≡ true → all p (upTo m) ≡ true
   all-done m j h k a =
       let e : m ≡ j = omega arith in
-      ap (λ (i : ℕ). all p (recorders i)) e ∙ a
+      ap (λ (i : ℕ). all p (upTo i)) e ∙ a
 
   -- a loop over the bytes from i up to t
   module _ (t : ℕ) (b : List ℕ) where

@@ -21,9 +21,9 @@ use Rattle.codec.specs.Slice.{Held}
 use Rattle.base.proofs.Bools.{by-cases}
 use Rattle.codec.specs.Table.{flags}
 use Rattle.base.specs.Lists.{has, all}
-use Rattle.base.specs.Numbers.{recorders}
+use Rattle.base.specs.Numbers.{upTo}
 use Rattle.quorum.specs.Sets.{members}
-use Rattle.base.proofs.NumbersLaws.{recorders-range, has-recorders}
+use Rattle.base.proofs.NumbersLaws.{upTo-range, has-upTo}
 use Rattle.quorum.proofs.SetLaws.{members-range}
 use Rattle.model.specs.Hall.{maxEntries, Entries, Message, Message.summary, Queued, Summary, Hall, maxBuffer, maxOrder, maxRecorders}
 use Rattle.model.specs.Opening.{blankSummary}
@@ -48,9 +48,9 @@ use Rattle.validity.specs.CrossParts.{Labels, queuedOk, summaryOk, apart
 -- ## Entries
 
 module _ (b : List ℕ) (K : Held hallFields b) where
-  pub labels-apart : labelsApart (raw b .entries) ≡ all (λ d. all (apart (raw b .entries) d) (recorders (entryCount b))) (recorders (entryCount b))
+  pub labels-apart : labelsApart (raw b .entries) ≡ all (λ d. all (apart (raw b .entries) d) (upTo (entryCount b))) (upTo (entryCount b))
   unfolding labelsApart apart numbers
-  labels-apart = ap (λ (c : ℕ). all (λ d. all (apart (raw b .entries) d) (recorders c)) (recorders c)) (raw-count b K)
+  labels-apart = ap (λ (c : ℕ). all (λ d. all (apart (raw b .entries) d) (upTo c)) (upTo c)) (raw-count b K)
 
   module _ (e : ℕ) (l : 1 ≤ e) (u : e ≤ entryCount b) where
     pub sender-at : raw b .entries .sender e ≡ getD b (entryCells + (e - 1) * entrySize) 0
@@ -72,16 +72,16 @@ module _ (b : List ℕ) (K : Held hallFields b) where
     pub labelled-at : labelledEntry (raw b .entries) e ≡ not (eqb (getD b (entryCells + (e - 1) * entrySize + entrySequenceAt) 0) 0)
     unfolding labelledEntry isLabelled numbers
     labelled-at =
-        ap₂ (λ (c k : ℕ). has (recorders c) e && not (eqb k 0)) (raw-count b K) seq-at
-        ∙ ap (λ (t : Bool). t && not (eqb (getD b (entryCells + (e - 1) * entrySize + entrySequenceAt) 0) 0)) (has-recorders (entryCount b) e l u)
+        ap₂ (λ (c k : ℕ). has (upTo c) e && not (eqb k 0)) (raw-count b K) seq-at
+        ∙ ap (λ (t : Bool). t && not (eqb (getD b (entryCells + (e - 1) * entrySize + entrySequenceAt) 0) 0)) (has-upTo (entryCount b) e l u)
 
   -- an entry number that is not used has no label
   pub unlabelled : (e : ℕ) → (1 ≤ e → entryCount b < e) → labelledEntry (raw b .entries) e ≡ false
   unfolding labelledEntry numbers
   unlabelled e h =
-      ap (λ (c : ℕ). has (recorders c) e && isLabelled (raw b .entries) e) (raw-count b K)
-      ∙ by-cases (has (recorders (entryCount b)) e)
-      (λ t. absurd (outside (recorders-range (entryCount b) e t)))
+      ap (λ (c : ℕ). has (upTo c) e && isLabelled (raw b .entries) e) (raw-count b K)
+      ∙ by-cases (has (upTo (entryCount b)) e)
+      (λ t. absurd (outside (upTo-range (entryCount b) e t)))
       (λ t. ap (λ (s : Bool). s && isLabelled (raw b .entries) e) t)
     where
       outside : (1 ≤ e) × (e ≤ entryCount b) → ⊥
@@ -106,11 +106,11 @@ module _ (b : List ℕ) (K : Held hallFields b) (l : List ℕ) (M : Labels (raw 
       ap (all (labelledEntry (raw b .entries))) (decode-list 1 maxEntries maxOrder o b h (valid-list-count 1 maxEntries maxOrder o b h v))
       ∙ all-same _ _ (listAt b o) (λ x k. sym (names-entry x))
 
-  set-names : (o : ℕ) → o + maxEntries ≤ length b → setNames (raw b .entries) (flags maxEntries .decode (part o maxEntries b)) ≡ all (setOk l b o) (recorders maxEntries)
+  set-names : (o : ℕ) → o + maxEntries ≤ length b → setNames (raw b .entries) (flags maxEntries .decode (part o maxEntries b)) ≡ all (setOk l b o) (upTo maxEntries)
   unfolding setNames setOk
   set-names o h =
-      all-same _ _ (recorders maxEntries)
-      (λ e k. let r = recorders-range maxEntries e k in ap₂ (λ (s t : Bool). not s || t) (flags-at maxEntries o b h e (r .0) (r .1)) (sym (M e)))
+      all-same _ _ (upTo maxEntries)
+      (λ e k. let r = upTo-range maxEntries e k in ap₂ (λ (s t : Bool). not s || t) (flags-at maxEntries o b h e (r .0) (r .1)) (sym (M e)))
 
   message-names : (q g x : ℕ) → messageNames (raw b) q g (messageOf x) ≡ messageMarked l (raw b .summaries .sent q g) x
   unfolding messageNames messageOf
@@ -208,7 +208,7 @@ module _ (b : List ℕ) (K : Held hallFields b) (l : List ℕ) (M : Labels (raw 
 
       none-names : summaryNames (raw b .entries) blankSummary ≡ true
       unfolding summaryNames setNames listNames blankSummary all
-      none-names = ap (λ (t : Bool). t && true) (all-true _ (recorders maxEntries) (λ e h. refl))
+      none-names = ap (λ (t : Bool). t && true) (all-true _ (upTo maxEntries) (λ e h. refl))
 
       summary-names : summaryNames (raw b .entries) (raw b .summaries .summary p (viewAt b i)) ≡ summaryOk l b (placeOff p i)
       unfolding summaryOk summaryNames
@@ -222,13 +222,13 @@ module _ (b : List ℕ) (K : Held hallFields b) (l : List ℕ) (M : Labels (raw 
               let r = place-room b K i k p lo hi in
               ap (summaryNames (raw b .entries)) (summary-some b K i k p lo hi t ∙ summary-value (off + placeSummaryAt) b)
               ∙ ap₂ _&&_ (set-names (off + placeSummaryAt) (omega arith)) (list-names (off + placeSummaryAt + summaryOrderAt) (omega arith) (summary-list b K i k p lo hi t))
-              ∙ sym (ap (λ (u : Bool). not u || (all (setOk l b (off + placeSummaryAt)) (recorders maxEntries) && all (messageMarked l false) (listAt b (off + placeSummaryAt + summaryOrderAt)))) t)
+              ∙ sym (ap (λ (u : Bool). not u || (all (setOk l b (off + placeSummaryAt)) (upTo maxEntries) && all (messageMarked l false) (listAt b (off + placeSummaryAt + summaryOrderAt)))) t)
 
           nothing : sentAt b p i ≡ false → summaryNames (raw b .entries) (raw b .summaries .summary p (viewAt b i)) ≡ summaryOk l b (placeOff p i)
           nothing t =
               ap (summaryNames (raw b .entries)) (summary-none b K i k p lo hi t)
               ∙ none-names
-              ∙ sym (ap (λ (u : Bool). not u || (all (setOk l b (off + placeSummaryAt)) (recorders maxEntries) && all (messageMarked l false) (listAt b (off + placeSummaryAt + summaryOrderAt)))) t)
+              ∙ sym (ap (λ (u : Bool). not u || (all (setOk l b (off + placeSummaryAt)) (upTo maxEntries) && all (messageMarked l false) (listAt b (off + placeSummaryAt + summaryOrderAt)))) t)
 
       pub place-member : has (members (sizeAt b) (setAt b i)) p ≡ true
           → placeCross (raw b) (viewAt b i) p ≡ all (messageMarked l (sentAt b p i)) (listAt b (placeOff p i)) && summaryOk l b (placeOff p i)
@@ -273,7 +273,7 @@ module _ (b : List ℕ) (K : Held hallFields b) (l : List ℕ) (M : Labels (raw 
     unfolding recorderAt
     current-at = ap (λ (x : RecorderCell). x .current) (whole ∙ recorder-value off b) ∙ viewNumber-value off b
 
-    known-names : setNames (raw b .entries) (raw b .recorders .known r) ≡ all (setOk l b (off + recorderKnownAt)) (recorders maxEntries)
+    known-names : setNames (raw b .entries) (raw b .recorders .known r) ≡ all (setOk l b (off + recorderKnownAt)) (upTo maxEntries)
     unfolding recorderAt
     known-names =
         let h = room in
@@ -281,7 +281,7 @@ module _ (b : List ℕ) (K : Held hallFields b) (l : List ℕ) (M : Labels (raw 
         ap (setNames (raw b .entries)) (ap (λ (x : RecorderCell). x .known) (whole ∙ recorder-value off b) ∙ ap (λ (j : ℕ). flags maxEntries .decode (part j maxEntries b)) e)
         ∙ set-names (off + recorderKnownAt) (omega arith)
 
-    safe-names : setNames (raw b .entries) (raw b .recorders .safe r) ≡ all (setOk l b (off + recorderSafeAt)) (recorders maxEntries)
+    safe-names : setNames (raw b .entries) (raw b .recorders .safe r) ≡ all (setOk l b (off + recorderSafeAt)) (upTo maxEntries)
     unfolding recorderAt
     safe-names =
         let h = room in
@@ -362,12 +362,12 @@ module _ (b : List ℕ) (K : Held hallFields b) (l : List ℕ) (M : Labels (raw 
 
       pub recorder-cross : recorderCross (raw b) r
           ≡ (eqb (value (part (recordersAt + (r - 1) * recorderSize) numberSize b)) 0 || has (members (sizeAt b) (setAt b i)) r)
-          && (all (setOk l b (recordersAt + (r - 1) * recorderSize + recorderKnownAt)) (recorders maxEntries)
+          && (all (setOk l b (recordersAt + (r - 1) * recorderSize + recorderKnownAt)) (upTo maxEntries)
           && (all (messageMarked l false) (listAt b (recordersAt + (r - 1) * recorderSize + recorderBufferAt))
           && (all (messageMarked l false) (listAt b (recordersAt + (r - 1) * recorderSize + recorderOrderAt))
-          && (all (setOk l b (recordersAt + (r - 1) * recorderSize + recorderSafeAt)) (recorders maxEntries)
-          && (all (heardOk b (recordersAt + (r - 1) * recorderSize + recorderHeardAt) (sizeAt b) (setAt b i) i) (recorders maxRecorders)
-          && all (sourceOk b (recordersAt + (r - 1) * recorderSize + recorderSafeSourcesAt) (sizeAt b) (setAt b i)) (recorders maxRecorders))))))
+          && (all (setOk l b (recordersAt + (r - 1) * recorderSize + recorderSafeAt)) (upTo maxEntries)
+          && (all (heardOk b (recordersAt + (r - 1) * recorderSize + recorderHeardAt) (sizeAt b) (setAt b i) i) (upTo maxRecorders)
+          && all (sourceOk b (recordersAt + (r - 1) * recorderSize + recorderSafeSourcesAt) (sizeAt b) (setAt b i)) (upTo maxRecorders))))))
       unfolding recorderCross heardOk sourceOk
       recorder-cross =
           ap₂ _&&_ (ap₂ (λ (g : ℕ) (t : Bool). eqb g 0 || t) current-at (in-set r))
@@ -376,15 +376,15 @@ module _ (b : List ℕ) (K : Held hallFields b) (l : List ℕ) (M : Labels (raw 
           (ap₂ _&&_ order-names
           (ap₂ _&&_ safe-names
           (ap₂ _&&_
-          (all-same _ _ (recorders maxRecorders) (λ q h. let w = recorders-range maxRecorders q h in ap₂ (λ (s t : Bool). not s || t) (heard-at q (w .0) (w .1)) (heard-sent q (w .0) (w .1))))
-          (all-same _ _ (recorders maxRecorders) (λ q h. let w = recorders-range maxRecorders q h in ap₂ (λ (s t : Bool). not s || t) (sources-at q (w .0) (w .1)) (in-set q))))))))
+          (all-same _ _ (upTo maxRecorders) (λ q h. let w = upTo-range maxRecorders q h in ap₂ (λ (s t : Bool). not s || t) (heard-at q (w .0) (w .1)) (heard-sent q (w .0) (w .1))))
+          (all-same _ _ (upTo maxRecorders) (λ q h. let w = upTo-range maxRecorders q h in ap₂ (λ (s t : Bool). not s || t) (sources-at q (w .0) (w .1)) (in-set q))))))))
 
 -- ## The whole
 
 pub cross-parts : (b : List ℕ) → Held hallFields b → crossRules (raw b)
     ≡ labelsApart (raw b .entries)
-    && (all (recorderCross (raw b)) (recorders (sizeAt b)) && all (viewCross (raw b)) (viewNumbers (viewCount b) 2 b))
+    && (all (recorderCross (raw b)) (upTo (sizeAt b)) && all (viewCross (raw b)) (viewNumbers (viewCount b) 2 b))
 unfolding crossRules
 cross-parts b K =
-    ap₂ (λ (n : ℕ) (xs : List ℕ). labelsApart (raw b .entries) && (all (recorderCross (raw b)) (recorders n) && all (viewCross (raw b)) xs))
+    ap₂ (λ (n : ℕ) (xs : List ℕ). labelsApart (raw b .entries) && (all (recorderCross (raw b)) (upTo n) && all (viewCross (raw b)) xs))
     (raw-size b K) (raw-created b K)

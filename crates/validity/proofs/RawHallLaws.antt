@@ -18,7 +18,7 @@ use Rattle.codec.proofs.SliceLaws.{value-ok, slice-value}
 use Rattle.base.proofs.Bools.{by-cases}
 use Rattle.codec.proofs.TableLaws.{Distinct}
 use Rattle.codec.specs.Table.{place, table}
-use Rattle.base.specs.Numbers.{numbers, recorders}
+use Rattle.base.specs.Numbers.{numbers, upTo}
 use Rattle.base.specs.Lists.{has}
 use Rattle.quorum.specs.Sets.{members, inMask}
 use Rattle.base.proofs.ListsLaws.{has-head, has-later, has-filter}
@@ -82,7 +82,7 @@ pub no-members : (n q : ℕ) → has (members n 0) q ≡ false
 unfolding members inMask
 no-members n q =
     let z : 0 / 2 ^ (q - 1) ≡ 0 = div-eq-of-lt (pow-pos (q - 1)) in
-    has-filter (inMask 0) (recorders n) q ∙ ap (λ (d : ℕ). has (recorders n) q && eqb (d % 2) 1) z ∙ and-false (has (recorders n) q)
+    has-filter (inMask 0) (upTo n) q ∙ ap (λ (d : ℕ). has (upTo n) q && eqb (d % 2) 1) z ∙ and-false (has (upTo n) q)
 
 module _ (b : List ℕ) (K : Held hallFields b) where
   pub long : storedLength ≤ length b

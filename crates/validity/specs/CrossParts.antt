@@ -7,7 +7,7 @@ use lib.Dec.{eqb}
 use lib.ListN.{getD}
 use Rattle.codec.specs.ByteList.{listAt}
 use Rattle.base.specs.Lists.{has, all}
-use Rattle.base.specs.Numbers.{recorders}
+use Rattle.base.specs.Numbers.{upTo}
 use Rattle.quorum.specs.Sets.{members}
 use Rattle.model.specs.Hall.{Entries, Hall, maxEntries}
 use Rattle.model.specs.Ordering.{isLabelled}
@@ -27,7 +27,7 @@ queuedOk l b i o = has (members (sizeAt b) (setAt b i)) (getD b o 0) && messageM
 
 -- the summary of the place at offset o, if it was sent
 unfoldable pub summaryOk : List ℕ → List ℕ → ℕ → Bool
-summaryOk l b o = not (eqb 1 (getD b (o + placeSentAt) 0)) || (all (setOk l b (o + placeSummaryAt)) (recorders maxEntries) && all (messageMarked l false) (listAt b (o + placeSummaryAt + summaryOrderAt)))
+summaryOk l b o = not (eqb 1 (getD b (o + placeSentAt) 0)) || (all (setOk l b (o + placeSummaryAt)) (upTo maxEntries) && all (messageMarked l false) (listAt b (o + placeSummaryAt + summaryOrderAt)))
 
 -- ## Entries
 
@@ -41,4 +41,4 @@ apart es d e =
 
 -- the rules of the view g
 abbrev pub viewCross : Hall → ℕ → Bool
-viewCross h g = queueNames h g (h .service .queue g) && all (placeCross h g) (recorders (h .size))
+viewCross h g = queueNames h g (h .service .queue g) && all (placeCross h g) (upTo (h .size))

@@ -8,7 +8,7 @@ ghost use Rattle.codec.specs.Bytes.{part};
 ghost use Rattle.codec.specs.ByteList.{listAt};
 ghost use Rattle.base.specs.Lists.{has, all};
 ghost use Rattle.quorum.specs.Sets.{members};
-ghost use Rattle.base.specs.Numbers.{recorders};
+ghost use Rattle.base.specs.Numbers.{upTo};
 ghost use Rattle.model.specs.Hall.{maxEntries, maxViews, maxRecorders};
 ghost use Rattle.store.specs.Valid.{labelsApart, queueNames, recorderCross, placeCross, crossRules};
 ghost use Rattle.store.specs.StoredForm.{isStored};
@@ -83,7 +83,7 @@ fn in_set(b: &[u8], at: usize, labels: &[u8; limits::MAX_ENTRIES], e: usize) -> 
 // Are the entries of the set of flags at an offset labelled?
 fn names_set(b: &[u8], at: usize, labels: &[u8; limits::MAX_ENTRIES]) -> bool
     requires { ⌜ at + maxEntries ≤ length (now b) ⌝ }
-    ensures { λ r. ⌜ r ≡ all (setOk (now (labels .entry)) (now (b .entry)) at) (recorders maxEntries) ⌝ }
+    ensures { λ r. ⌜ r ≡ all (setOk (now (labels .entry)) (now (b .entry)) at) (upTo maxEntries) ⌝ }
 {
     let mut j = 0;
     while j < limits::MAX_ENTRIES {
@@ -134,7 +134,7 @@ fn heard_one(b: &[u8], at: usize, set: u8, i: usize, q: usize) -> bool
 // "A source is marked heard only if its summary in the hearer's current view was sent."
 fn heard_all(b: &[u8], at: usize, set: u8, i: usize) -> bool
     requires { ⌜ (i ≤ maxViews) × (at + maxRecorders ≤ length (now b)) × (storedLength ≤ length (now b)) × (getD (now b) 0 0 ≤ maxRecorders) ⌝ }
-    ensures { λ r. ⌜ r ≡ all (heardOk (now (b .entry)) at (getD (now (b .entry)) 0 0) set i) (recorders maxRecorders) ⌝ }
+    ensures { λ r. ⌜ r ≡ all (heardOk (now (b .entry)) at (getD (now (b .entry)) 0 0) set i) (upTo maxRecorders) ⌝ }
 {
     let mut j = 0;
     while j < limits::MAX_RECORDERS {
@@ -161,7 +161,7 @@ fn source_one(b: &[u8], at: usize, set: u8, q: usize) -> bool
 // "Sources heard or safe are those of members of the view."
 fn source_all(b: &[u8], at: usize, set: u8) -> bool
     requires { ⌜ (at + maxRecorders ≤ length (now b)) × (getD (now b) 0 0 ≤ maxRecorders) ⌝ }
-    ensures { λ r. ⌜ r ≡ all (sourceOk (now (b .entry)) at (getD (now (b .entry)) 0 0) set) (recorders maxRecorders) ⌝ }
+    ensures { λ r. ⌜ r ≡ all (sourceOk (now (b .entry)) at (getD (now (b .entry)) 0 0) set) (upTo maxRecorders) ⌝ }
 {
     let mut j = 0;
     while j < limits::MAX_RECORDERS {
@@ -242,7 +242,7 @@ fn label_apart(b: &[u8], d: usize, e: usize) -> bool
 // Does entry d share its label with no other of the m entries?
 fn label_alone(b: &[u8], m: usize, d: usize) -> bool
     requires { ⌜ Ranged (now b) × ((m ≡ entryCount (now b)) × (1 ≤ d) × (d ≤ m)) ⌝ }
-    ensures { λ r. ⌜ r ≡ all (apart (raw (now (b .entry)) .entries) d) (recorders m) ⌝ }
+    ensures { λ r. ⌜ r ≡ all (apart (raw (now (b .entry)) .entries) d) (upTo m) ⌝ }
 {
     let mut j = 0;
     while j < m {
@@ -257,7 +257,7 @@ fn label_alone(b: &[u8], m: usize, d: usize) -> bool
 // "No two entries share one."
 fn labels_alone(b: &[u8], m: usize) -> bool
     requires { ⌜ Ranged (now b) × (m ≡ entryCount (now b)) ⌝ }
-    ensures { λ r. ⌜ r ≡ all (λ d. all (apart (raw (now (b .entry)) .entries) d) (recorders m)) (recorders m) ⌝ }
+    ensures { λ r. ⌜ r ≡ all (λ d. all (apart (raw (now (b .entry)) .entries) d) (upTo m)) (upTo m) ⌝ }
 {
     let mut j = 0;
     while j < m {
@@ -336,7 +336,7 @@ fn place_cross(b: &[u8], i: usize, labels: &[u8; limits::MAX_ENTRIES], p: usize)
 // The same for recorders 1 to n.
 fn places_cross(b: &[u8], i: usize, labels: &[u8; limits::MAX_ENTRIES], n: usize) -> bool
     requires { ⌜ Ranged (now b) × ((i < viewCount (now b)) × Labels (raw (now b) .entries) (now labels) × (n ≡ sizeAt (now b))) ⌝ }
-    ensures { λ r. ⌜ r ≡ all (placeCross (raw (now (b .entry))) (viewAt (now (b .entry)) i)) (recorders n) ⌝ }
+    ensures { λ r. ⌜ r ≡ all (placeCross (raw (now (b .entry))) (viewAt (now (b .entry)) i)) (upTo n) ⌝ }
 {
     let mut j = 0;
     while j < n {
@@ -410,7 +410,7 @@ fn recorder_cross(b: &[u8], labels: &[u8; limits::MAX_ENTRIES], r: usize) -> boo
 // The same for recorders 1 to n.
 fn recorders_cross(b: &[u8], labels: &[u8; limits::MAX_ENTRIES], n: usize) -> bool
     requires { ⌜ Ranged (now b) × (Labels (raw (now b) .entries) (now labels) × (n ≡ sizeAt (now b))) ⌝ }
-    ensures { λ t. ⌜ t ≡ all (recorderCross (raw (now (b .entry)))) (recorders n) ⌝ }
+    ensures { λ t. ⌜ t ≡ all (recorderCross (raw (now (b .entry)))) (upTo n) ⌝ }
 {
     let mut j = 0;
     while j < n {

@@ -5,7 +5,7 @@ use Prim.Native.Nat.{_-_, _≤_}
 use mathlib.Core.Path.{_≡_, sym, _∙_}
 use mathlib.Core.Bool.{true}
 use borrow.Author.Tests.{not-true, not-false}
-use Rattle.base.specs.Numbers.{recorders}
+use Rattle.base.specs.Numbers.{upTo}
 use Rattle.base.specs.Lists.{all}
 use Rattle.validity.proofs.AllsLaws.{all-none, all-next, all-fail, all-done}
 use Rattle.validity.specs.RawHall.{raw}
@@ -14,7 +14,7 @@ use Rattle.validity.proofs.label_alone.Statement.{statement}
 use Rattle.validity.proofs.label_alone.Tie as tie
 
 abbrev Inv-loop : tie.InvT-loop
-Inv-loop b m d j₀ j = (j ≤ m) × (all (apart (raw b .entries) d) (recorders j) ≡ true)
+Inv-loop b m d j₀ j = (j ≤ m) × (all (apart (raw b .entries) d) (upTo j) ≡ true)
 
 abbrev μ-loop : tie.MeasureT-loop
 μ-loop b m d j₀ j = m - j

@@ -5,7 +5,7 @@ use Prim.Native.Nat.{_-_, _≤_}
 use mathlib.Core.Path.{_≡_, sym, _∙_}
 use mathlib.Core.Bool.{true}
 use borrow.Author.Tests.{not-true, not-false}
-use Rattle.base.specs.Numbers.{recorders}
+use Rattle.base.specs.Numbers.{upTo}
 use Rattle.base.specs.Lists.{all}
 use Rattle.model.specs.Hall.{maxEntries}
 use Rattle.validity.proofs.AllsLaws.{all-none, all-next, all-fail, all-done}
@@ -14,7 +14,7 @@ use Rattle.validity.proofs.names_set.Statement.{statement}
 use Rattle.validity.proofs.names_set.Tie as tie
 
 abbrev Inv-loop : tie.InvT-loop
-Inv-loop b at labels j₀ j = (j ≤ maxEntries) × (all (setOk labels b at) (recorders j) ≡ true)
+Inv-loop b at labels j₀ j = (j ≤ maxEntries) × (all (setOk labels b at) (upTo j) ≡ true)
 
 abbrev μ-loop : tie.MeasureT-loop
 μ-loop b at labels j₀ j = maxEntries - j

@@ -5,7 +5,7 @@ use Prim.Native.Nat.{_-_, _≤_}
 use mathlib.Core.Path.{_≡_, sym, _∙_}
 use mathlib.Core.Bool.{true}
 use borrow.Author.Tests.{not-true, not-false}
-use Rattle.base.specs.Numbers.{recorders}
+use Rattle.base.specs.Numbers.{upTo}
 use Rattle.base.specs.Lists.{all}
 use Rattle.validity.specs.Alls.{viewAt}
 use Rattle.validity.proofs.AllsLaws.{all-none, all-next, all-fail, all-done}
@@ -15,7 +15,7 @@ use Rattle.validity.proofs.places_cross.Statement.{statement}
 use Rattle.validity.proofs.places_cross.Tie as tie
 
 abbrev Inv-loop : tie.InvT-loop
-Inv-loop b i labels n j₀ j = (j ≤ n) × (all (placeCross (raw b) (viewAt b i)) (recorders j) ≡ true)
+Inv-loop b i labels n j₀ j = (j ≤ n) × (all (placeCross (raw b) (viewAt b i)) (upTo j) ≡ true)
 
 abbrev μ-loop : tie.MeasureT-loop
 μ-loop b i labels n j₀ j = n - j

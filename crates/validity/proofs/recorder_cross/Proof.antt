@@ -6,7 +6,7 @@ use mathlib.Core.Bool.{_&&_, _||_}
 use lib.Dec.{eqb}
 use Rattle.base.specs.Lists.{has, all}
 use Rattle.quorum.specs.Sets.{members}
-use Rattle.base.specs.Numbers.{recorders}
+use Rattle.base.specs.Numbers.{upTo}
 use Rattle.validity.specs.Alls.{Found}
 use Rattle.validity.specs.Marks.{heardOk, sourceOk}
 use Rattle.validity.specs.RawHall.{sizeAt, viewCount}
@@ -121,8 +121,8 @@ returns c =
     (c .before .before .before .before .before .before .both2 .ensures
     ∙ ap₂ _&&_ (c .before .before .before .before .before .before .before .names-set2 .ensures)
     (c .before .before .before .before .before .before .before .before .both .ensures
-    ∙ ap₂ _&&_ (c .before .before .before .before .before .before .before .before .before .before .heard-all .ensures ∙ ap (λ (w : ℕ). all (heardOk b (at + recorderHeardAt) (sizeAt b) w i) (recorders maxRecorders)) s)
-    (c .before .before .before .before .before .before .before .before .before .source-all .ensures ∙ ap (λ (w : ℕ). all (sourceOk b (at + recorderSafeSourcesAt) (sizeAt b) w) (recorders maxRecorders)) s))))))
+    ∙ ap₂ _&&_ (c .before .before .before .before .before .before .before .before .before .before .heard-all .ensures ∙ ap (λ (w : ℕ). all (heardOk b (at + recorderHeardAt) (sizeAt b) w i) (upTo maxRecorders)) s)
+    (c .before .before .before .before .before .before .before .before .before .source-all .ensures ∙ ap (λ (w : ℕ). all (sourceOk b (at + recorderSafeSourcesAt) (sizeAt b) w) (upTo maxRecorders)) s))))))
     ∙ sym
     (recorder-cross b (h .0 .held) (now (a .labels)) (h .1 .0) (a .r) (h .1 .1) (h .1 .2) i
     (subst (λ (z : ℕ). Found (viewCount b) b z i) g (c .before .before .before .before .before .before .before .before .before .before .before .before .before .before .before .find-view .ensures)))

@@ -5,7 +5,7 @@ use Prim.Native.Nat.{_-_, _≤_}
 use mathlib.Core.Path.{_≡_, sym, _∙_}
 use mathlib.Core.Bool.{true}
 use borrow.Author.Tests.{not-true, not-false}
-use Rattle.base.specs.Numbers.{recorders}
+use Rattle.base.specs.Numbers.{upTo}
 use Rattle.base.specs.Lists.{all}
 use Rattle.validity.proofs.AllsLaws.{all-none, all-next, all-fail, all-done}
 use Rattle.store.specs.Valid.{recorderCross}
@@ -14,7 +14,7 @@ use Rattle.validity.proofs.recorders_cross.Statement.{statement}
 use Rattle.validity.proofs.recorders_cross.Tie as tie
 
 abbrev Inv-loop : tie.InvT-loop
-Inv-loop b labels n j₀ j = (j ≤ n) × (all (recorderCross (raw b)) (recorders j) ≡ true)
+Inv-loop b labels n j₀ j = (j ≤ n) × (all (recorderCross (raw b)) (upTo j) ≡ true)
 
 abbrev μ-loop : tie.MeasureT-loop
 μ-loop b labels n j₀ j = n - j

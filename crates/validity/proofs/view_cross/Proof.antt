@@ -3,7 +3,7 @@ use denote.Ref.{now}
 use Prim.Native.Nat.{ℕ}
 use mathlib.Core.Path.{sym, ap, ap₂, _∙_}
 use mathlib.Core.Bool.{_&&_}
-use Rattle.base.specs.Numbers.{recorders}
+use Rattle.base.specs.Numbers.{upTo}
 use Rattle.base.specs.Lists.{all}
 use Rattle.store.specs.Valid.{placeCross}
 use Rattle.validity.specs.Alls.{viewAt}
@@ -34,7 +34,7 @@ returns c =
     c .both .ensures
     ∙ ap₂ _&&_ (c .before .before .names-queue .ensures)
     (c .before .places-cross .ensures
-    ∙ ap (λ (n : ℕ). all (placeCross (raw b) (viewAt b (c .before .before .before .before .before .args .i))) (recorders n)) (sym (raw-size b (c .before .before .before .before .before .pre .0 .held))))
+    ∙ ap (λ (n : ℕ). all (placeCross (raw b) (viewAt b (c .before .before .before .before .before .args .i))) (upTo n)) (sym (raw-size b (c .before .before .before .before .before .pre .0 .held))))
 
 pub view-cross-spec : {M : Type 1} → statement M
 view-cross-spec =
