@@ -1,15 +1,17 @@
 -- Laws of lists: what they have, those of their elements that pass a test, rising lists, greatest elements.
 -- Assumes nothing.
-use Prim.Native.Nat.{ℕ, _≤_, _<_, max}
-use native.Mathlib.Omega.{arith}
-use mathlib.Core.Bool.{Bool, true, false, _&&_, _||_, and-eq-true-iff, and-false, false≢true, true≢false}
-use mathlib.Core.List.{List, [], _∷_, _++_}
-use mathlib.Core.Logic.{_↔_, _⊎_, inl, inr, ⊎-elim}
+use Prim.Native.Nat.{ℕ, zero, suc, _<_, _≤_, max}
+use native.Mathlib.Nat.{not-suc-le-zero, le-of-suc-le-suc}
 use mathlib.Core.Path.{_≡_, refl, sym, ap, _∙_, subst}
-use borrow.Author.Tests.{eqb-true, eq-eqb, ltb-true, lt-ltb}
+use mathlib.Core.Bool.{true, false, true≢false, false≢true, Bool, _&&_, _||_, and-false, and-eq-true-iff}
+use mathlib.Core.List.{List, [], _∷_, _++_}
 use lib.Dec.{eqb, ltb}
-use Rattle.base.specs.Lists.{filter, has, rising, bit, count, all, place, rest, greatest, isEmpty}
-use Rattle.base.proofs.Bools.{or-cases, or-left, or-right, and-both, and-true}
+use lib.ListN.{length, getD}
+use borrow.Author.Tests.{eqb-true, eq-eqb, ltb-true, lt-ltb}
+use Rattle.base.specs.Lists.{has, filter, rising, bit, count, all, place, rest, greatest, isEmpty}
+use Rattle.base.proofs.Bools.{by-cases, or-cases, and-both, or-left, or-right, and-true}
+use native.Mathlib.Omega.{arith}
+use mathlib.Core.Logic.{⊎-elim, _↔_, _⊎_, inl, inr}
 
 pub has-here : (y : ℕ) (ys : List ℕ) (x : ℕ) → eqb x y ≡ true → has (y ∷ ys) x ≡ true
 unfolding has
@@ -191,3 +193,15 @@ pub head-rest : {A : Type 0} (xs : List A) (d : A) → isEmpty xs ≡ false → 
 unfolding isEmpty place rest
 head-rest [] d e = absurd (true≢false e)
 head-rest (x ∷ xs) d e = refl
+
+-- the key at place i is there
+pub key-has : (ks : List ℕ) (i : ℕ) → i < length ks → has ks (getD ks i 0) ≡ true
+unfolding has
+key-has [] i h = absurd (not-suc-le-zero h)
+key-has (k ∷ ks) zero h = rw (eq-eqb k k refl, has) refl
+key-has (k ∷ ks) (suc i) h =
+    by-cases (eqb (getD ks i 0) k) (λ e. rw (e, has) refl) (λ e. rw (e, has) (key-has ks i (le-of-suc-le-suc h)))
+
+pub bit-small : (t : Bool) → bit t ≤ 1
+bit-small true = omega arith
+bit-small false = omega arith

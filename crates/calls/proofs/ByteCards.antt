@@ -1,10 +1,10 @@
 -- Calls on bytes that are no hall's stored form. Assumes nothing.
-use Prim.Native.Nat.{ℕ, _-_, _<_}
+use Prim.Native.Nat.{ℕ, _-_}
 use native.Mathlib.Omega.{arith}
 use mathlib.Core.Path.{_≡_, refl, ap, _∙_}
 use mathlib.Core.Bool.{true, false}
 use mathlib.Core.List.{List, [], _∷_}
-use lib.ListN.{length, length-take}
+use lib.ListN.{length-take}
 use Rattle.base.specs.Lists.{Each}
 use Rattle.codec.specs.Bytes.{zeros}
 use Rattle.codec.specs.Form.{mapped, renamed, guarded}
@@ -18,7 +18,7 @@ use Rattle.model.specs.Call.{wordsOf}
 use Rattle.store.specs.Layout.{storedLength}
 use Rattle.store.specs.HallForm.{fields, hallFields, hallForm}
 use Rattle.store.specs.StoredForm.{hallOf, isStored}
-use Rattle.store.proofs.StoredFormLaws.{isStored-long, hallOf-valid}
+use Rattle.store.proofs.StoredFormLaws.{hallOf-valid, short-broken}
 use Rattle.calls.specs.ByKind.{give}
 use Rattle.calls.proofs.ByKindLaws.{actOn, step-by-kind}
 use Rattle.calls.specs.ByteCards.{CardHolds, kindTwelve, kindOne, cutShort, brokenCards}
@@ -31,10 +31,6 @@ broken-refused b no-hall = (
   step-by-kind b (wordsOf 1 0 0 0)
       ∙ ap (λ t. elim t [ true ↦ actOn b submit 0 0 0 | false ↦ give (refused 31) b ]) no-hall,
 )
-
--- too few bytes are none
-short-broken : (b : List ℕ) → length b < storedLength → isStored b ≡ false
-short-broken b l = by-cases (isStored b) (λ t. absurd (omega (arith, isStored-long b t))) (λ f. f)
 
 -- N stands in the first byte, and is not 0
 zero-broken : (xs : List ℕ) → isStored (0 ∷ xs) ≡ false

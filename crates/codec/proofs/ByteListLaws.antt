@@ -1,20 +1,20 @@
 -- Laws of specs/ByteList. Assumes nothing.
-use Prim.Native.Nat.{ℕ, zero, suc, _+_, _-_, _*_, _≤_, _<_}
+use Prim.Native.Nat.{ℕ, suc, _+_, _≤_, _<_, zero, _-_, _*_}
 use native.Mathlib.Omega.{arith}
-use native.Mathlib.Nat.{mul-one, not-suc-le-zero, le-of-suc-le-suc}
-use native.Mathlib.Numerals.{one-add, add-one}
-use mathlib.Core.Path.{_≡_, refl, sym, ap, ap₂, subst, _∙_}
+use native.Mathlib.Numerals.{add-one, one-add}
+use mathlib.Core.Path.{_≡_, sym, ap, _∙_, refl, ap₂, subst}
 use mathlib.Core.Bool.{Bool, true, false, _&&_, and-eq-true-iff}
 use mathlib.Core.List.{List, [], _∷_, _++_}
-use lib.Dec.{leb}
-use lib.ListN.{length, getD, take, drop, set, length-take, length-drop}
-use lib.Seq.{sets, take-take}
+use lib.ListN.{length, getD, set, take, drop, length-take, length-drop}
+use lib.Seq.{take-suc-set, sets, take-take}
 use borrow.Author.Tests.{leb-true, le-leb, lt-leb}
+use Rattle.base.specs.Lists.{Each}
+use native.Mathlib.Nat.{mul-one, not-suc-le-zero, le-of-suc-le-suc}
+use lib.Dec.{leb}
 use Rattle.codec.specs.Bytes.{zeros, part, allZero}
 use Rattle.codec.proofs.BytesLaws.{part-cons, part-rest, drop-part, sets-append}
 use Rattle.codec.specs.Number.{number, byte, between, digits, value}
 use Rattle.codec.proofs.NumberLaws.{digits-byte}
-use Rattle.base.specs.Lists.{Each}
 use Rattle.codec.specs.Cells.{encodeAll, decodeAll, validAll}
 use Rattle.codec.specs.Bounded.{Within, bounded}
 use Rattle.codec.proofs.BoundedLaws.{bounded-encode, bounded-decode, bounded-valid}
@@ -149,3 +149,7 @@ module _ (lo hi : ℕ) where
             ap allZero (ap (λ (n : ℕ). drop n (part (o + 1) cap b)) (mul-one c) ∙ drop-part (o + 1) cap c b k)
             ∙ ap (λ (n : ℕ). allZero (part (o + 1 + c) n b)) (sym left)
             ∙ sym f
+
+-- x after the first n places
+pub take-push : (xs : List ℕ) (n x : ℕ) → n < length xs → take (n + 1) (set xs n x) ≡ take n xs ++ (x ∷ [])
+take-push xs n x h = ap (λ (k : ℕ). take k (set xs n x)) (add-one n) ∙ take-suc-set xs n x h

@@ -12,7 +12,8 @@ use Rattle.codec.specs.Bytes.{Block, part}
 use Rattle.codec.proofs.BytesLaws.{part-cons}
 use Rattle.codec.specs.Form.{Form, mapped}
 use Rattle.codec.proofs.FormLaws.{Lawful, mapped-lawful}
-use Rattle.codec.specs.Number.{digits, value, between, number, word, byte, mark, bit, flag}
+use Rattle.codec.specs.Number.{digits, value, between, number, word, byte, mark, flag}
+use Rattle.base.specs.Lists.{bit}
 
 pub block-digits : (n v : ℕ) → Block n (digits n v)
 unfolding digits

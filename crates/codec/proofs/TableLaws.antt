@@ -1,13 +1,17 @@
 -- Laws of specs/Table. Assumes nothing.
-use Prim.Native.Nat.{ℕ, zero, suc, _+_, _-_, _*_, _≤_, _<_, suc-le-suc}
-use native.Mathlib.Omega.{arith}
-use native.Mathlib.Nat.{le-of-eq, suc-ne-zero, suc-inj}
-use mathlib.Core.Path.{_≡_, refl, sym, ap, ap₂, subst, fun-ext, _∙_}
-use mathlib.Core.Bool.{true, false, false≢true, true≢false}
+use Prim.Native.Nat.{ℕ, zero, suc, _<_, _+_, _-_, _*_, _≤_, suc-le-suc}
+use native.Mathlib.Nat.{not-suc-le-zero, le-of-suc-le-suc, le-of-eq, suc-ne-zero, suc-inj}
+use mathlib.Core.Path.{_≡_, refl, sym, ap, _∙_, ap₂, subst, fun-ext}
+use mathlib.Core.Bool.{true, false, true≢false, false≢true}
 use mathlib.Core.List.{List, [], _∷_, _++_, map, map-append}
 use lib.Dec.{eqb}
 use lib.ListN.{length, getD, set, length-append, length-map}
-use borrow.Author.Tests.{eqb-true, eqb-false, eq-eqb, ne-eqb}
+use borrow.Author.Tests.{eqb-true, eq-eqb, ne-eqb, eqb-false}
+use Rattle.base.specs.Lists.{has, Each}
+use Rattle.base.proofs.Bools.{by-cases}
+use Rattle.codec.specs.Table.{place, lookup, Tabled, table, flags}
+use Rattle.base.proofs.ListsLaws.{key-has}
+use native.Mathlib.Omega.{arith}
 unfoldable pub use Rattle.base.specs.Lists.{has}
 unfoldable pub use Rattle.base.specs.Update.{upd}
 use Rattle.codec.specs.Form.{Form, mapped}
@@ -15,14 +19,11 @@ use Rattle.codec.proofs.FormLaws.{Lawful, Inverse, mapped-lawful}
 use Rattle.codec.specs.Number.{flag}
 use Rattle.codec.proofs.NumberLaws.{flag-lawful}
 use Rattle.codec.specs.Bytes.{zeros}
-use Rattle.base.specs.Lists.{Each}
 use Rattle.codec.specs.Cells.{encodeAll, cells}
 use Rattle.codec.proofs.CellsLaws.{encodeAll-nil, encodeAll-cons, cells-lawful}
 use Rattle.codec.proofs.Piece.{Piece, cell, mapped-piece, restated}
 use Rattle.codec.proofs.Blank.{Blank, cells-grow}
-use Rattle.codec.specs.Table.{place, lookup, Tabled, table, flags}
 use Rattle.base.specs.Numbers.{numbers}
-use Rattle.base.proofs.Bools.{by-cases}
 use Rattle.base.proofs.NumbersLaws.{length-numbers}
 
 -- each key stands once
@@ -212,3 +213,28 @@ numbers-distinct n = above-distinct 0 (numbers 1 n) (above-numbers 0 1 n (omega 
 pub flags-lawful : (n : ℕ) → Lawful (flags n)
 unfolding flags
 flags-lawful n = table-lawful flag (numbers 1 n) n false (numbers-distinct n) flag-lawful (le-of-eq (length-numbers 1 n))
+
+-- and its place is i, each key standing once
+pub key-place : (ks : List ℕ) (i : ℕ) → Distinct ks → i < length ks → place ks (getD ks i 0) ≡ i
+unfolding place
+key-place [] i d h = absurd (not-suc-le-zero h)
+key-place (k ∷ ks) zero d h = rw (eq-eqb k k refl, place) refl
+key-place (k ∷ ks) (suc i) d h =
+    let l = le-of-suc-le-suc h in
+    let n : eqb (getD ks i 0) k ≡ false =
+    ne-eqb (getD ks i 0) k (λ e. true≢false (sym (sym (ap (has ks) e) ∙ key-has ks i l) ∙ d .0)) in
+    rw (n, place) (ap suc (key-place ks i (d .1) l))
+
+-- the key at a key's place
+pub place-key : (ks : List ℕ) (j : ℕ) → has ks j ≡ true → getD ks (place ks j) 0 ≡ j
+unfolding has place
+place-key [] j h = absurd (false≢true h)
+place-key (k ∷ ks) j h =
+    by-cases (eqb j k) (λ e. rw (e, place) (sym (eqb-true j k e))) (λ e. rw (e, place) (place-key ks j (rw (e, has) at h)))
+
+-- a key that is missing has the place past the last
+pub place-missing : (ks : List ℕ) (j : ℕ) → has ks j ≡ false → place ks j ≡ length ks
+unfolding has place
+place-missing [] j h = refl
+place-missing (k ∷ ks) j h =
+    by-cases (eqb j k) (λ e. absurd (true≢false (rw (e, has) at h))) (λ e. rw (e, place) (ap suc (place-missing ks j (rw (e, has) at h))))

@@ -1,10 +1,10 @@
 -- Numbers in a range, little-endian in n bytes. Assumes nothing.
 use Prim.Native.Nat.{ℕ, zero, suc, _+_, _-_, _*_, _/_, _%_, _^_, _≤_}
-use mathlib.Core.Bool.{Bool, true, false, _&&_}
+use mathlib.Core.Bool.{Bool, _&&_}
 use mathlib.Core.List.{List, [], _∷_}
 use lib.Dec.{leb, eqb}
-use Rattle.codec.specs.Bytes.{Block}
 use Rattle.codec.specs.Form.{Form, mapped}
+use Rattle.base.specs.Lists.{bit}
 
 -- the n bytes of v, least first
 unfoldable pub digits : ℕ → ℕ → List ℕ
@@ -41,11 +41,6 @@ byte lo hi = number 1 0 lo hi
 -- a mark, a number of 1 .. hi in one byte, stored less 1 so that the first mark is 0
 abbrev pub mark : ℕ → Form ℕ 1
 mark hi = number 1 1 1 hi
-
--- the number of a Bool: 1 for true, 0 for false
-abbrev pub bit : Bool → ℕ
-bit true = 1
-bit false = 0
 
 -- a Bool in one byte
 unfoldable pub flag : Form Bool 1

@@ -1,25 +1,20 @@
 -- A step's answer looks at no byte past the stored length; how many values an answer has. Assumes nothing.
-use Prim.Native.Nat.{ℕ, _+_, _≤_, _<_}
+use Prim.Native.Nat.{ℕ, _+_, _≤_}
 use native.Mathlib.Omega.{arith}
 use mathlib.Core.Path.{_≡_, refl, sym, ap, ap₂, _∙_}
 use mathlib.Core.Bool.{Bool, true, false}
 use mathlib.Core.List.{List, [], _++_, append-nil}
 use lib.ListN.{length, take, drop, drop-of-length-le}
 use lib.Seq.{sets, sets-eq, length-take-le}
-use Rattle.base.proofs.Bools.{by-cases}
 use Rattle.model.specs.Hall.{Hall}
 use Rattle.model.specs.Answers.{Content, Answer, message, refused, Plain, plain}
 use Rattle.model.specs.Page.{PageAnswer, plainPage}
 use Rattle.model.specs.Call.{Words, hl3, Stored, hall, broken, call}
 use Rattle.store.specs.Layout.{storedLength}
 use Rattle.store.specs.StoredForm.{hallOf, isStored}
-use Rattle.store.proofs.StoredFormLaws.{isStored-long, isStored-first, hallOf-first}
+use Rattle.store.proofs.StoredFormLaws.{isStored-first, hallOf-first}
 use Rattle.calls.specs.Calls.{held, Outcome, stepOn}
 use Rattle.calls.specs.Lent.{Lent}
-
--- a slice that is too short holds no hall
-pub short-broken : (b : List ℕ) → length b < storedLength → isStored b ≡ false
-short-broken b l = by-cases (isStored b) (λ t. absurd (omega (arith, isStored-long b t))) (λ t. t)
 
 -- the answer goes by the first bytes alone, as many as the stored length
 pub answer-first : (b : List ℕ) (w : Words) → storedLength ≤ length b → stepOn (take storedLength b) w .answer ≡ stepOn b w .answer

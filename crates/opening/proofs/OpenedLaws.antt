@@ -28,7 +28,7 @@ use Rattle.codec.proofs.SliceLaws.{sets-append-left}
 use Rattle.base.specs.Lists.{filter, has, rising}
 use Rattle.quorum.specs.Sets.{inMask, members, mask}
 use Rattle.base.proofs.ListsLaws.{has-there, has-append, has-filter, has-none}
-use Rattle.quorum.proofs.SetLaws.{has-members, members-range, members-nonempty, rising-members, mask-append, mask-members}
+use Rattle.quorum.proofs.SetLaws.{has-members, members-range, members-nonempty, rising-members, mask-append}
 use Rattle.model.specs.Hall.{maxEntries, maxSequence, maxBuffer, maxOrder, maxViews, maxNumber, maxRecorders, Queued, normal, Hall}
 use Rattle.model.specs.Fields.{setCurrent, setService}
 use Rattle.model.specs.Service.{createview}
@@ -60,6 +60,7 @@ use Rattle.calls.specs.Calls.{openNumber}
 use Rattle.hall.proofs.Changes.{but-upd}
 use Rattle.hall.proofs.Writes.{write-piece}
 use Rattle.opening.specs.Opened.{founderMask, hallWith, begun, startOf, Taken}
+use Rattle.store.proofs.ViewFormLaws.{view-bytes}
 
 -- ## The founders' mask
 
@@ -315,14 +316,6 @@ first-byte b len m x e h =
     let l : 0 + length (zeros len) ≡ len = omega (arith, length-replicate {A = ℕ} len 0) in
     ap (λ (z : List ℕ). sets z 0 (x ∷ [])) (sets-eq (zeros len) b 0 (omega arith) ∙ ap (λ (k : ℕ). zeros len ++ drop k b) l)
     ∙ ap (λ (k : ℕ). sets (zeros k ++ drop len b) 0 (x ∷ [])) e
-
--- a view's cell: its number in four bytes, its mask in one
-view-bytes : (n g m : ℕ) → m < 2 ^ n → viewForm n .encode (g, members n m) ≡ digits numberSize g ++ digits 1 m
-unfolding viewForm setForm given number mapped
-view-bytes n g m h =
-    let e : g - 0 ≡ g = omega arith in
-    let f : mask (members n m) - 0 ≡ m = omega (arith, mask-members n m h) in
-    ap₂ (λ (x y : ℕ). digits numberSize x ++ digits 1 y) e f
 
 module _ (n m : ℕ) (size : Between 1 maxRecorders n) (some-one : 1 ≤ m) (fits : m < 2 ^ n) where
   not-none : members n m ≡ [] → ⊥

@@ -1,12 +1,12 @@
 -- What an opening's words mean, and what the code's tests say of them. Assumes nothing.
-use Prim.Native.Nat.{ℕ, _+_, _-_, _*_, _/_, _%_, _^_, _≤_, _<_}
+use Prim.Native.Nat.{ℕ, _+_, _-_, _/_, _%_, _^_, _≤_, _<_}
 use native.Mathlib.Omega.{arith}
 use mathlib.Core.Path.{_≡_, refl, sym, ap, ap₂, _∙_}
 use mathlib.Core.Bool.{Bool, true, false, _&&_, and-false}
 use mathlib.Core.List.{List, _++_}
-use lib.Dec.{eqb, leb, ltb, lit<}
+use lib.Dec.{eqb, leb, ltb}
 use lib.ListN.{length, drop}
-use lib.Pow.{pow-pos, shl-exact}
+use lib.Pow.{pow-pos}
 use borrow.Author.Tests.{le-leb, lt-leb, eq-eqb, ne-eqb}
 use Rattle.quorum.specs.Sets.{inMask, members}
 use Rattle.base.specs.Lists.{has}
@@ -21,9 +21,6 @@ use Rattle.calls.specs.Calls.{withHall, openNumber, openOn}
 use Rattle.calls.proofs.OpenLaws.{open-refused, open-taken}
 use Rattle.opening.specs.Opened.{founderMask, begun, Taken}
 use Rattle.opening.proofs.OpenedLaws.{begun-opened, taken}
-
-pub one-shifted : (n : ℕ) → n ≤ maxRecorders → 1 * 2 ^ n % 4294967296 ≡ 2 ^ n
-one-shifted n h = shl-exact {a = 1} 1 n 32 (lit< tt) (omega arith) ∙ omega arith
 
 -- 16 by its three tests
 module _ (n founders : ℕ) where

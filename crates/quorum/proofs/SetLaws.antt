@@ -1,21 +1,21 @@
 -- Laws of the sets of `Sets`: what a list has, the members of a mask, and the mask of members.
 -- Assumes nothing.
-use Prim.Native.Nat.{ℕ, zero, suc, _+_, _*_, _-_, _/_, _%_, _^_, _≤_, _<_}
-use native.Mathlib.Nat.{pow-succ', mod-eq-of-lt, mod-one}
+use Prim.Native.Nat.{ℕ, zero, suc, _+_, _-_, _*_, _%_, _^_, _≤_, _<_, _/_}
 use native.Mathlib.Omega.{arith}
+use mathlib.Core.Path.{_≡_, refl, sym, ap, _∙_}
 use mathlib.Core.Bool.{Bool, true, false}
 use mathlib.Core.List.{List, [], _∷_, _++_}
-use mathlib.Core.Logic.{_⊎_, ⊎-elim}
-use mathlib.Core.Path.{_≡_, refl, sym, ap, _∙_}
+use lib.Dec.{lit<, eqb}
+use lib.Pow.{shl-exact, pow-pos}
 use borrow.Author.Tests.{eqb-true, eqb-false}
-use lib.Arith.{mod-mul}
-use lib.Dec.{eqb}
-use lib.Pow.{pow-pos}
+use Rattle.base.specs.Lists.{bit, filter, has, rising, count}
 use Rattle.base.specs.Numbers.{upTo}
-use Rattle.base.specs.Lists.{filter, has, rising, bit, count}
 use Rattle.quorum.specs.Sets.{inMask, members, mask}
-use Rattle.base.proofs.ListsLaws.{has-head, filter-in, filter-out, has-filter, in-filter, filter-append, rising-filter, rising-once}
+use Rattle.base.proofs.ListsLaws.{filter-in, filter-out, filter-append, in-filter, rising-filter, has-head, has-filter, rising-once}
 use Rattle.base.proofs.NumbersLaws.{has-upTo, upTo-range, rising-upTo}
+use native.Mathlib.Nat.{pow-succ', mod-eq-of-lt, mod-one}
+use mathlib.Core.Logic.{_⊎_, ⊎-elim}
+use lib.Arith.{mod-mul}
 
 -- ---- the head of a list
 
@@ -96,3 +96,7 @@ rising-members n b = rising-filter (inMask b) 0 (upTo n) (rising-upTo n)
 
 pub members-once : (n b x : ℕ) → count (members n b) x ≡ bit (has (members n b) x)
 members-once n b = rising-once 0 (members n b) (rising-members n b)
+
+-- the bit of a recorder, of eight
+pub one-shifted : (i : ℕ) → i ≤ 8 → 1 * 2 ^ i % 4294967296 ≡ 2 ^ i
+one-shifted i h = shl-exact {a = 1} 1 i 32 (lit< tt) (omega arith) ∙ omega arith

@@ -1,29 +1,32 @@
 -- Laws of specs/ViewForm. Assumes nothing.
-use Prim.Native.Nat.{ℕ, _≤_}
-use mathlib.Core.Path.{_≡_, refl, sym, ap, ap₂, subst, fun-ext, _∙_}
+use Prim.Native.Nat.{ℕ, _-_, _^_, _≤_, _<_}
+use native.Mathlib.Omega.{arith}
+use mathlib.Core.Path.{_≡_, refl, sym, ap, ap₂, _∙_, subst, fun-ext}
 use mathlib.Core.Bool.{true, false, false≢true}
-use mathlib.Core.List.{List, [], _∷_, map, map-map, map-id}
+use mathlib.Core.List.{List, [], _∷_, _++_, map, map-map, map-id}
 use lib.Dec.{lit<, lit≤}
 use lib.ListN.{length-map}
 use Rattle.codec.specs.Form.{Form, mapped, guarded}
-use Rattle.codec.proofs.FormLaws.{Lawful, Inverse, mapped-lawful, guarded-lawful}
-use Rattle.codec.specs.Number.{number}
+use Rattle.codec.specs.Number.{digits, number}
 use Rattle.codec.proofs.NumberLaws.{number-lawful}
 use Rattle.codec.specs.Pair.{given}
-use Rattle.codec.proofs.PairLaws.{pair-lawful}
-use Rattle.base.specs.Lists.{Each, has, rising}
-use Rattle.codec.specs.Bounded.{bounded}
-use Rattle.codec.proofs.BoundedLaws.{bounded-lawful}
-use Rattle.base.proofs.Bools.{by-cases}
-use Rattle.codec.proofs.TableLaws.{Distinct, Above, above-distinct, lookup-map, lookup-outside, map-lookup, all-keys, each-key}
 use Rattle.codec.specs.Table.{lookup}
+use Rattle.codec.proofs.TableLaws.{all-keys, Distinct, Above, above-distinct, lookup-map, lookup-outside, map-lookup, each-key}
+use Rattle.base.specs.Lists.{has, rising, Each}
+use Rattle.quorum.specs.Sets.{members, mask}
 use Rattle.base.proofs.ListsLaws.{rising-cons, rising-above}
+use Rattle.quorum.proofs.SetLaws.{mask-members}
 use Rattle.model.specs.Hall.{maxViews, maxNumber}
+use Rattle.base.proofs.Bools.{by-cases}
 use Rattle.store.specs.Layout.{numberSize}
 use Rattle.store.specs.Valid.{ViewsIn}
-use Rattle.store.specs.Masks.{SetOf, setForm}
+use Rattle.store.specs.Masks.{setForm, SetOf}
 use Rattle.store.proofs.MasksLaws.{set-lawful}
-use Rattle.store.specs.ViewForm.{viewForm, numbersOf, setsOf, numbersRise, viewList, Views, toViews, fromViews, ViewsOk, viewsForm}
+use Rattle.store.specs.ViewForm.{viewForm, viewList, viewsForm, numbersOf, setsOf, numbersRise, Views, toViews, fromViews, ViewsOk}
+use Rattle.codec.proofs.FormLaws.{Lawful, Inverse, mapped-lawful, guarded-lawful}
+use Rattle.codec.proofs.PairLaws.{pair-lawful}
+use Rattle.codec.specs.Bounded.{bounded}
+use Rattle.codec.proofs.BoundedLaws.{bounded-lawful}
 
 pub view-lawful : (n : ℕ) → n ≤ 8 → Lawful (viewForm n)
 unfolding viewForm
@@ -110,3 +113,11 @@ module _ (n : ℕ) where
   pub views-lawful : n ≤ 8 → Lawful (viewsForm n)
   unfolding viewsForm
   views-lawful h = mapped-lawful (viewList n) toViews fromViews (ViewsOk n) (viewList-lawful n h) views-inverse
+
+-- a view's cell: its number in four bytes, its mask in one
+pub view-bytes : (n g m : ℕ) → m < 2 ^ n → viewForm n .encode (g, members n m) ≡ digits numberSize g ++ digits 1 m
+unfolding viewForm setForm given number mapped
+view-bytes n g m h =
+    let e : g - 0 ≡ g = omega arith in
+    let f : mask (members n m) - 0 ≡ m = omega (arith, mask-members n m h) in
+    ap₂ (λ (x y : ℕ). digits numberSize x ++ digits 1 y) e f

@@ -2,13 +2,13 @@
 use Prim.Native.Nat.{ℕ, zero, suc, _+_, _-_, _*_, _/_, _%_, _^_, _≤_, _<_}
 use native.Mathlib.Omega.{arith}
 use native.Mathlib.Nat.{not-suc-le-zero, le-of-suc-le-suc, div-eq-of-lt}
-use mathlib.Core.Path.{_≡_, refl, sym, ap, subst, _∙_}
-use mathlib.Core.Bool.{true, false, _&&_, and-false, true≢false}
-use mathlib.Core.List.{List, [], _∷_}
+use mathlib.Core.Path.{_≡_, sym, ap, subst, _∙_}
+use mathlib.Core.Bool.{true, false, _&&_, and-false}
+use mathlib.Core.List.{List}
 use lib.Dec.{eqb, ltb}
 use lib.Pow.{pow-pos}
 use lib.ListN.{length, getD}
-use borrow.Author.Tests.{ltb-true, ltb-false, lt-ltb, le-ltb, ne-eqb, eq-eqb}
+use borrow.Author.Tests.{ltb-true, ltb-false, lt-ltb, le-ltb}
 use Rattle.codec.specs.Bytes.{part}
 use Rattle.codec.specs.Form.{mapped, renamed}
 use Rattle.codec.specs.Number.{value, byte}
@@ -16,12 +16,12 @@ use Rattle.codec.specs.Pair.{pair}
 use Rattle.codec.specs.Slice.{Held, valueOf}
 use Rattle.codec.proofs.SliceLaws.{value-ok, slice-value}
 use Rattle.base.proofs.Bools.{by-cases}
-use Rattle.codec.proofs.TableLaws.{Distinct}
+use Rattle.codec.proofs.TableLaws.{key-place}
 use Rattle.codec.specs.Table.{place, table}
 use Rattle.base.specs.Numbers.{numbers, upTo}
 use Rattle.base.specs.Lists.{has}
 use Rattle.quorum.specs.Sets.{members, inMask}
-use Rattle.base.proofs.ListsLaws.{has-head, has-later, has-filter}
+use Rattle.base.proofs.ListsLaws.{has-filter, key-has}
 use Rattle.model.specs.Hall.{maxEntries, maxRecorders, Hall, maxViews}
 use Rattle.store.specs.Layout.{storedLength, entryCells, entrySize, numberSize, wordSize, viewSetAt, viewSize, payloadSize, entryPayloadAt, viewsAt, viewCells, entriesAt, viewsSize}
 use Rattle.store.specs.Valid.{InRange}
@@ -60,23 +60,6 @@ nth-view (suc m) o zero b h =
 nth-view (suc m) o (suc i) b h =
     let e : o + viewSize + i * viewSize ≡ o + suc i * viewSize = omega arith in
     nth-view m (o + viewSize) i b (le-of-suc-le-suc h) ∙ ap (λ (j : ℕ). value (part j numberSize b)) e
-
-has-nth : (xs : List ℕ) (i : ℕ) → i < length xs → has xs (getD xs i 0) ≡ true
-has-nth [] i h = absurd (not-suc-le-zero h)
-has-nth (x ∷ xs) zero h = has-head x xs
-has-nth (x ∷ xs) (suc i) h = has-later x xs (getD xs i 0) (has-nth xs i (le-of-suc-le-suc h))
-
-place-nth : (xs : List ℕ) (i : ℕ) → Distinct xs → i < length xs → place xs (getD xs i 0) ≡ i
-unfolding place
-place-nth [] i u h = absurd (not-suc-le-zero h)
-place-nth (x ∷ xs) zero u h = rw (same x)
-  where
-    same : (x : ℕ) → eqb x x ≡ true
-    same x = eq-eqb x x refl
-place-nth (x ∷ xs) (suc i) u h =
-    let k = getD xs i 0 in
-    let apart : eqb k x ≡ false = ne-eqb k x (λ e. true≢false (sym (has-nth xs i (le-of-suc-le-suc h)) ∙ ap (has xs) e ∙ u .0)) in
-    rw apart (ap suc (place-nth xs i (u .1) (le-of-suc-le-suc h)))
 
 pub no-members : (n q : ℕ) → has (members n 0) q ≡ false
 unfolding members inMask
@@ -155,12 +138,12 @@ module _ (b : List ℕ) (K : Held hallFields b) where
     inside = subst (λ (m : ℕ). i < m) (sym created-length) l
 
     pub view-formed : has (raw b .service .created) (viewAt b i) ≡ true
-    view-formed = ap (has (raw b .service .created)) (sym created-nth) ∙ has-nth (raw b .service .created) i inside
+    view-formed = ap (has (raw b .service .created)) (sym created-nth) ∙ key-has (raw b .service .created) i inside
 
     pub view-place : place (raw b .service .created) (viewAt b i) ≡ i
     view-place =
         ap (place (raw b .service .created)) (sym created-nth)
-        ∙ place-nth (raw b .service .created) i (rising-distinct (raw b .service .created) (in-range .views .rises)) inside
+        ∙ key-place (raw b .service .created) i (rising-distinct (raw b .service .created) (in-range .views .rises)) inside
 
     pub view-members : raw b .service .members (viewAt b i) ≡ members (sizeAt b) (getD b (viewCells + i * viewSize + viewSetAt) 0)
     view-members =

@@ -1,5 +1,6 @@
 -- `marshal::try_short` meets its contract. Assumes nothing.
-use Rattle.marshal.proofs.Answers.{short-broken, answer-broken}
+use Rattle.marshal.proofs.Answers.{answer-broken}
+use Rattle.store.proofs.StoredFormLaws.{short-broken}
 use lib.Dec.{lit<}
 use Rattle.model.specs.Call.{wordsOf}
 use Rattle.calls.specs.Calls.{stepOn}

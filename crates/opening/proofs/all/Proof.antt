@@ -2,7 +2,7 @@
 use native.Mathlib.Omega.{arith}
 use lib.Pow.{pow-pos}
 use borrow.Author.Needs.{needs}
-use Rattle.opening.proofs.Openings.{one-shifted}
+use Rattle.quorum.proofs.SetLaws.{one-shifted}
 use Rattle.opening.proofs.all.Statement.{statement}
 use Rattle.opening.proofs.all.Tie as tie
 
