@@ -1,6 +1,7 @@
 -- What an answer of the code means, by cases. "For an answer that is an enum, a definition gives this paper's number and
 -- values for each of its cases." Assumes nothing.
 use mathlib.Core.Path.{_≡_}
+use Rattle.model.specs.Payloads.{payloadMeaning}
 use Rattle.model.specs.Answers as model
 use Rattle.model.specs.Answers.{plain}
 use Rattle.model.specs.Page as modelPage
@@ -14,13 +15,13 @@ use Rattle.answer.specs.declared.PageAnswer.{PageAnswer}
 use Rattle.answer.specs.declared.PlainPage.{PlainPage}
 
 unfoldable pub contentMeaning : Content → model.Content
-contentMeaning (Content.Entry e) = model.entry (e .view) (e .seq) (e .sender) (e .value)
+contentMeaning (Content.Entry e) = model.entry (e .view) (e .seq) (e .sender) (payloadMeaning (e .payload))
 contentMeaning (Content.Summary s) = model.summary (s .known) (s .order) (s .confirm) (s .high)
 
 unfoldable pub meaning : Answer → model.Answer
 meaning Answer.Done = model.done
 meaning (Answer.Message m) = model.message (m .source) (contentMeaning (m .content))
-meaning (Answer.From s) = model.from (s .sender) (s .value)
+meaning (Answer.From s) = model.from (s .sender) (payloadMeaning (s .payload))
 meaning (Answer.Refused k) = model.refused k
 
 -- the plain numbers are those of the meaning

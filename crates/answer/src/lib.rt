@@ -2,13 +2,14 @@
 ghost use mathlib.Core.Path.{_≡_};
 ghost use Rattle.model.specs.Answers.{accepted};
 ghost use Rattle.answer.specs.Meaning.{meaning, SaysAnswer, SaysPage};
+use model::payload::Payload;
 
-// An entry, with its label and value.
+// An entry, with its label and payload.
 pub struct EntryPart {
     pub view: u32,
     pub seq: u32,
     pub sender: u32,
-    pub value: u32,
+    pub payload: Payload,
 }
 
 // A summary: its known count, order length, confirm mark and highest primary.
@@ -34,7 +35,7 @@ pub struct Message {
 // "Deliver gives sender and value."
 pub struct Sent {
     pub sender: u32,
-    pub value: u32,
+    pub payload: Payload,
 }
 
 // The answer of an action. "The others give only done." "A refusal gives its number".
@@ -69,7 +70,7 @@ fn plain_message(m: Message) -> PlainAnswer
     match content {
         Content::Entry(e) => PlainAnswer {
             number: 0,
-            values: [1, source, e.view, e.seq, e.sender, e.value],
+            values: [1, source, e.view, e.seq, e.sender, e.payload.value],
         },
         Content::Summary(s) => PlainAnswer {
             number: 0,
@@ -86,7 +87,7 @@ pub fn plain(a: Answer) -> PlainAnswer
         Answer::Message(m) => plain_message(m),
         Answer::From(s) => PlainAnswer {
             number: 0,
-            values: [3, s.sender, s.value, 0, 0, 0],
+            values: [3, s.sender, s.payload.value, 0, 0, 0],
         },
         Answer::Refused(k) => only_number(k),
     }

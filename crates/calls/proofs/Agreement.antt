@@ -4,18 +4,18 @@
 use Prim.Native.Nat.{ℕ, _^_, _≤_, _<_}
 use native.Mathlib.Omega.{arith}
 use mathlib.Core.Path.{_≡_, refl, sym, ap, ap₂, _∙_, subst}
-use mathlib.Core.Logic.{_⊎_, inl, inr}
-use mathlib.Core.Bool.{Bool, true, false, _&&_}
+use mathlib.Core.Logic.{_⊎_, inl, inr, ⊎-elim}
+use mathlib.Core.Bool.{true}
 use mathlib.Core.List.{List, [], _∷_, _++_, map}
-use lib.Dec.{eqb, ltb, leb}
+use lib.Dec.{eqb, ltb}
 use lib.ListN.{length, drop}
 use lib.Seq.{sets, sets-eq}
-use borrow.Author.Tests.{eqb-true, eqb-false, eq-eqb, ne-eqb, ltb-true, ltb-false, leb-true, leb-false}
+use borrow.Author.Tests.{eqb-true, eqb-false, eq-eqb, ne-eqb, ltb-true, ltb-false}
 use Rattle.codec.specs.Bytes.{part, zeros}
 use Rattle.codec.specs.Number.{digits, value}
 use Rattle.codec.proofs.NumberLaws.{value-digits}
-use Rattle.base.proofs.Bools.{by-cases, and-both, and-true}
-use Rattle.model.specs.Hall.{Entries, Hall}
+use Rattle.base.proofs.Bools.{by-cases, and-true}
+use Rattle.model.specs.Hall.{Entries, Hall, Payload}
 use Rattle.model.specs.Answers.{Answer, from, Plain, plain, accepted}
 use Rattle.model.specs.Refusals.{orderAt}
 use Rattle.model.specs.Opening.{Opening}
@@ -23,12 +23,14 @@ use Rattle.model.specs.Call.{Words, WordsIn, hl3, step}
 use Rattle.model.specs.Run.{accepts}
 use Rattle.model.specs.Agreed.{Agreed}
 use Rattle.model.proofs.Accepting.Accepted.{accepts-deliver}
-use Rattle.store.specs.Valid.{EntriesIn, InRange, ValidHall}
+use Rattle.store.specs.Valid.{PayloadIn, EntriesIn, ValidHall}
+use Rattle.store.proofs.KeepFacts.{inside?}
+use Rattle.store.proofs.KeepValid.{payloads-in}
 use Rattle.store.specs.StoredForm.{stored}
 use Rattle.calls.specs.Calls.{stepOn, openOn, runOn}
 use Rattle.calls.specs.Steps.{Steps}
 use Rattle.calls.specs.Lent.{answerLength, wordsBytes, answerBytes, withAnswer, Lent, stepLent, Leaves}
-use Rattle.calls.specs.Histories.{Made, historyOf, Opens, madeOn, historyOn, StepCall, StepsMet, stepsLeft, stepsMade, LentCall, LentMet, lentLeft, wordIn, lentMade}
+use Rattle.calls.specs.Histories.{Made, historyOf, Opens, madeOn, historyOn, StepCall, StepsMet, stepsLeft, stepsMade, LentCall, LentMet, lentLeft, wordIn, deliverIn, lentMade}
 use Rattle.calls.proofs.RunLaw.{step-stored}
 use Rattle.calls.proofs.Refused.{lent-refused, lent-short, lent-done}
 use Rattle.calls.proofs.Runs.{Performs, Turned, Sound, sound-agree}
@@ -84,38 +86,22 @@ calls-agree b o n d opens t cs met low =
 
 -- ## Calls of `hall_open` and `hall_step`
 
--- sender and value of an entry of a valid hall are 32-bit words
-entry-words : (h : Hall) → ValidHall h → (e : ℕ) → (h .entries .sender e < 2 ^ 32) × (h .entries .value e < 2 ^ 32)
-entry-words h v e =
-    by-cases (leb 1 e && leb e (h .entries .count))
-    (λ t.
-    let both = and-both (leb 1 e) _ t in
-    let low = leb-true 1 e (both .0) in
-    let high = leb-true e (h .entries .count) (both .1) in
-    (omega (arith, inRange .entries .senderIn e low high .1, inRange .size .1), inRange .entries .valueIn e low high))
-    (λ t.
-    let blank = inRange .entries .blank e (outside t) in
-    (omega (arith, blank .0), omega (arith, blank .1)))
-  where
-    inRange : InRange h
-    inRange = v .inRange
-
-    outside : (leb 1 e && leb e (h .entries .count)) ≡ false → (e ≡ 0) ⊎ (h .entries .count < e)
-    outside t =
-        by-cases (leb 1 e)
-        (λ s. inr (leb-false e (h .entries .count) (sym (ap (λ (u : Bool). u && leb e (h .entries .count)) s) ∙ t)))
-        (λ s. inl (omega (arith, leb-false 1 e s)))
+-- an entry's sender in a valid hall is a 32-bit word, also where no entry is
+sender-word : (h : Hall) → ValidHall h → (e : ℕ) → h .entries .sender e < 2 ^ 32
+sender-word h v e =
+    let i = v .inRange .entries in
+    ⊎-elim (λ b. omega (arith, i .senderIn e (b .0) (b .1) .1, v .inRange .size .1)) (λ o. omega (arith, i .blank e o .0)) (inside? (h .entries .count) e)
 
 -- the words that a deliver's answer is written as
-answer-words : (out : List ℕ) (s v : ℕ) → answerLength ≤ length out → s < 2 ^ 32 → v < 2 ^ 32
-    → from (wordIn 1 (withAnswer out (plain (from s v) .values))) (wordIn 2 (withAnswer out (plain (from s v) .values))) ≡ from s v
-unfolding plain withAnswer answerBytes wordsBytes wordIn digits
-answer-words out s v l i j =
-    let xs = wordsBytes (plain (from s v) .values) ++ zeros 40 in
+answer-words : (out : List ℕ) (s : ℕ) (x : Payload) → answerLength ≤ length out → s < 2 ^ 32 → PayloadIn x
+    → deliverIn (withAnswer out (plain (from s x) .values)) ≡ from s x
+unfolding deliverIn plain withAnswer answerBytes wordsBytes wordIn digits
+answer-words out s x l i j =
+    let xs = wordsBytes (plain (from s x) .values) ++ zeros 40 in
     let e : sets out 0 xs ≡ xs ++ drop 64 out = sets-eq xs out 0 (omega arith) in
-    ap₂ from
-    (ap (λ (x : List ℕ). value (part 4 4 x)) e ∙ value-digits 4 s (omega arith))
-    (ap (λ (x : List ℕ). value (part 8 4 x)) e ∙ value-digits 4 v (omega arith))
+    ap₂ (λ (p v : ℕ). from p (record { value = v }))
+    (ap (λ (z : List ℕ). value (part 4 4 z)) e ∙ value-digits 4 s (omega arith))
+    (ap (λ (z : List ℕ). value (part 8 4 z)) e ∙ value-digits 4 (x .value) (omega (arith, j .value)))
 
 module _ (b : List ℕ) (c : LentCall) (met : Leaves (stepLent b (c .words) (c .out)) (c .number) (c .hall) (c .answer)) where
   abbrev w : Words
@@ -130,7 +116,7 @@ module _ (b : List ℕ) (c : LentCall) (met : Leaves (stepLent b (c .words) (c .
         words = w;
         before = b;
         taken = eqb (c .number) 0;
-        answer = from (wordIn 1 (c .answer)) (wordIn 2 (c .answer));
+        answer = deliverIn (c .answer);
         after = c .hall;
       }
 
@@ -151,14 +137,13 @@ module _ (b : List ℕ) (c : LentCall) (met : Leaves (stepLent b (c .words) (c .
       let es = h .entries in
       let at = orderAt h (w .r) (h .recorders .report (w .r)) in
       let same : x ≡ step hl3 h w .answer = ap (λ (b : List ℕ). stepOn b w .answer) e ∙ step-stored h v rest w .0 in
-      let y : x ≡ from (es .sender at) (es .value at) =
+      let y : x ≡ from (es .sender at) (es .payload at) =
       same
       ∙ accepts-deliver hl3 h w (w .r)
       (and-true (eqb (w .k) 11) _ (eq-eqb (w .k) 11 k) (and-true (eqb (w .r) (w .r)) _ (eq-eqb (w .r) (w .r) refl) (ap accepted (sym same) ∙ done)))
       .2 in
-      let i = entry-words h v at in
-      ap (λ (z : List ℕ). from (wordIn 1 z) (wordIn 2 z)) (written ∙ ap (λ (z : Answer). withAnswer (c .out) (plain z .values)) y)
-      ∙ answer-words (c .out) (es .sender at) (es .value at) room (i .0) (i .1)
+      ap deliverIn (written ∙ ap (λ (z : Answer). withAnswer (c .out) (plain z .values)) y)
+      ∙ answer-words (c .out) (es .sender at) (es .payload at) room (sender-word h v at) (payloads-in (h .size) es (v .inRange .entries) at)
       ∙ sym y
 
   lent-sound : Performs b made ⊎ Turned b made

@@ -10,7 +10,7 @@ use borrow.Author.Tests.{eqb-true}
 use lib.ListN.{drop}
 use Rattle.model.specs.Hall.{Hall}
 use Rattle.model.specs.Answers.{accepted}
-use Rattle.model.specs.Actions.{Outcome}
+use Rattle.model.specs.Actions.{Outcome, payloadOf}
 use Rattle.model.specs.Opening.{Opening, openRefusal, opened}
 use Rattle.model.specs.Call.{Words, WordsIn, hl3, step}
 use Rattle.model.specs.Run.{run, accepts, collect, firstWaiting, atReport, itemsFrom, submitted, labelledAt, delivered, deliverAnswers, History, history}
@@ -156,7 +156,7 @@ module _ (b : List ℕ) (o : Opening) (t : openOn b o .number ≡ 0) (ms : List 
   history-is =
       λ i. record {
         submitted = fun-ext (λ (s : ℕ). ap (itemsFrom s 1)
-            (sym (found .lists 1 s (λ m. m .words .a) (λ h w. w .a) (λ h v m p k y. refl)))) i;
+            (sym (found .lists 1 s (λ m. payloadOf (m .words .a)) (λ h w. payloadOf (w .a)) (λ h v m p k y. refl)))) i;
         labelled = fun-ext (λ (s : ℕ). sym (found .lists 2 s (λ m. firstWaiting (hallOf (m .before)) s) (λ h w. firstWaiting h s)
             (λ h v m p k y. ap (λ (g : Hall). firstWaiting g s) (hall-before h v m p)))) i;
         delivered = fun-ext (λ (r : ℕ). sym (found .lists 11 r (λ m. atReport (hallOf (m .before)) r) (λ h w. atReport h r)

@@ -9,6 +9,7 @@ use Rattle.codec.specs.Bytes.{part}
 use Rattle.codec.specs.Number.{value}
 use Rattle.model.specs.Answers as model
 use Rattle.model.specs.Answers.{from, accepted}
+use Rattle.model.specs.Actions.{payloadOf}
 use Rattle.model.specs.Opening.{Opening}
 use Rattle.model.specs.Call.{Words}
 use Rattle.model.specs.Run.{firstWaiting, atReport, itemsFrom, History}
@@ -39,7 +40,7 @@ gathered k r f (m ∷ ms) =
 abbrev pub historyOf : List Made → List ℕ → History
 historyOf ms last =
     record {
-      submitted = λ s. itemsFrom s 1 (gathered 1 s (λ m. m .words .a) ms);
+      submitted = λ s. itemsFrom s 1 (gathered 1 s (λ m. payloadOf (m .words .a)) ms);
       labelled = λ s. gathered 2 s (λ m. firstWaiting (hallOf (m .before)) s) ms;
       delivered = λ r. gathered 11 r (λ m. atReport (hallOf (m .before)) r) ms;
       deliverAnswers = λ r. gathered 11 r (λ m. m .answer) ms;
@@ -114,7 +115,11 @@ lentLeft b (c ∷ cs) = lentLeft (c .hall) cs
 unfoldable pub wordIn : ℕ → List ℕ → ℕ
 wordIn i x = value (part (4 * i) 4 x)
 
--- A call is accepted if it returned 0; a deliver's sender and value are words 1 and 2 of its answer slice.
+-- the deliver answer of an answer slice: its sender is word 1, its value word 2
+unfoldable pub deliverIn : List ℕ → model.Answer
+deliverIn x = from (wordIn 1 x) (record { value = wordIn 2 x })
+
+-- A call is accepted if it returned 0.
 unfoldable pub lentMade : List ℕ → List LentCall → List Made
 lentMade b [] = []
 lentMade b (c ∷ cs) =
@@ -122,7 +127,7 @@ lentMade b (c ∷ cs) =
       words = c .words;
       before = b;
       taken = eqb (c .number) 0;
-      answer = from (wordIn 1 (c .answer)) (wordIn 2 (c .answer));
+      answer = deliverIn (c .answer);
       after = c .hall;
     }
     ∷ lentMade (c .hall) cs

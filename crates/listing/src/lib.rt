@@ -1,6 +1,7 @@
 // The lines of the replay listing (01, "The replay listing"), written into a lent buffer, and their lengths. These
 // functions are for the crates of this repository: a `requires` is met by each caller's proof.
 ghost use mathlib.Core.List.{[], _∷_};
+ghost use Rattle.model.specs.Payloads.{payloadMeaning};
 ghost use Rattle.model.specs.Answers.{message};
 ghost use Rattle.model.specs.Listing.{decimal, line, actionLine, endLine, refusedLine, hall-word};
 ghost use Rattle.answer.specs.Meaning.{meaning, contentMeaning};
@@ -15,12 +16,12 @@ use answer::SummaryCounts;
 
 // "`entry` gives view.sequence.sender and value"
 fn put_entry(out: &mut [u8], at: usize, e: EntryPart) -> usize
-    requires { ⌜ Room (now out) at (entryText (e .view) (e .seq) (e .sender) (e .value)) ⌝ }
-    ensures { λ r. ⌜ Wrote (now (out .entry)) at (entryText (e .view) (e .seq) (e .sender) (e .value)) (now (out .exit)) r ⌝ }
+    requires { ⌜ Room (now out) at (entryText (e .view) (e .seq) (e .sender) (payloadMeaning (e .payload))) ⌝ }
+    ensures { λ r. ⌜ Wrote (now (out .entry)) at (entryText (e .view) (e .seq) (e .sender) (payloadMeaning (e .payload))) (now (out .exit)) r ⌝ }
 {
     let a = text::put_field(out, at, b"entry");
     let b = text::put_label(out, a, e.view, e.seq, e.sender);
-    text::put_last(out, b, e.value)
+    text::put_last(out, b, e.payload.value)
 }
 
 // "`summary` gives source, known count, order length, confirm mark, highest primary"
@@ -49,11 +50,11 @@ fn put_message(out: &mut [u8], at: usize, m: Message) -> usize
 
 // "`from`, for a deliver, gives sender and value"
 fn put_sent(out: &mut [u8], at: usize, s: Sent) -> usize
-    requires { ⌜ Room (now out) at (sentText (s .sender) (s .value)) ⌝ }
-    ensures { λ r. ⌜ Wrote (now (out .entry)) at (sentText (s .sender) (s .value)) (now (out .exit)) r ⌝ }
+    requires { ⌜ Room (now out) at (sentText (s .sender) (payloadMeaning (s .payload))) ⌝ }
+    ensures { λ r. ⌜ Wrote (now (out .entry)) at (sentText (s .sender) (payloadMeaning (s .payload))) (now (out .exit)) r ⌝ }
 {
     let next = text::put_field(out, at, b"from");
-    text::put_last_two(out, next, s.sender, s.value)
+    text::put_last_two(out, next, s.sender, s.payload.value)
 }
 
 fn put_refusal(out: &mut [u8], at: usize, k: u32) -> usize
@@ -121,7 +122,9 @@ fn message_len(m: Message) -> usize
     let source = m.source;
     let content = m.content;
     match content {
-        Content::Entry(e) => 6 + text::label_len(e.view, e.seq, e.sender) + text::last_len(e.value),
+        Content::Entry(e) => 6
+            + text::label_len(e.view, e.seq, e.sender)
+            + text::last_len(e.payload.value),
         Content::Summary(s) => {
             let first = 9 + text::decimal_len(source);
             let counts = 2 + text::decimal_len(s.known) + text::decimal_len(s.order);
@@ -136,7 +139,7 @@ fn answer_len(a: Answer) -> usize
     match a {
         Answer::Done => 4,
         Answer::Message(m) => message_len(m),
-        Answer::From(s) => 5 + text::last_two_len(s.sender, s.value),
+        Answer::From(s) => 5 + text::last_two_len(s.sender, s.payload.value),
         Answer::Refused(k) => 8 + text::last_len(k),
     }
 }

@@ -1,5 +1,6 @@
 -- The argument for demand 3 in a folder of its own; computed facts beside it.
 pub mod Agreement
+pub mod Kept
 pub mod EndCounts
 pub mod KindLaws
 pub mod Computing

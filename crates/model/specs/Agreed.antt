@@ -27,8 +27,8 @@ pub record Agreed (left : History) : Type 0 where
   pub firstOnes : (r s : ℕ) → Begins (ofItems s (left .delivered r)) (left .submitted s)
   -- the k-th accepted label at s labels the k-th entry submitted there
   pub labelledInTurn : (s : ℕ) → Begins (left .labelled s) (left .submitted s)
-  -- each accepted deliver answered the sender and value of the entry that joined the delivered list
-  pub answered : (r : ℕ) → left .deliverAnswers r ≡ map (λ (i : Item). from (i .sender) (i .value)) (left .delivered r)
+  -- each accepted deliver answered the sender and payload of the entry that joined the delivered list
+  pub answered : (r : ℕ) → left .deliverAnswers r ≡ map (λ (i : Item). from (i .sender) (i .payload)) (left .delivered r)
   -- the confirmed list of the recorder with the lower or equal highest primary begins the other's order
   pub confirmedBegin : (p q : ℕ) → left .last .recorders .high p ≤ left .last .recorders .high q
       → Begins (confirmedOf (left .last) p) (orderOf (left .last) q)

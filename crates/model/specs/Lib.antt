@@ -1,5 +1,6 @@
 pub mod Hall
 pub mod Fields
+pub mod Payloads
 pub mod Service
 pub mod Ordering
 pub mod Kinds

@@ -3,8 +3,7 @@ use Prim.Native.Nat.{ℕ, zero, suc, _+_, _-_, _*_, _^_, _≤_, _<_}
 use native.Mathlib.Omega.{arith}
 use native.Mathlib.Numerals.{add-one}
 use mathlib.Core.Path.{_≡_, refl, sym, ap, ap₂, _∙_}
-use mathlib.Core.Logic.{⊎-elim}
-use mathlib.Core.Bool.{Bool, true, false, _&&_, _||_, or-false, false≢true}
+use mathlib.Core.Bool.{Bool, true, false, _&&_, _||_, or-false}
 use mathlib.Core.List.{List, [], _∷_, _++_, map}
 use lib.Dec.{eqb}
 use borrow.Author.Tests.{eqb-false, ne-eqb, ltb-false}
@@ -30,34 +29,32 @@ use Rattle.quorum.specs.Sets.{inMask, members, mask}
 use Rattle.base.proofs.ListsLaws.{has-there, has-append, has-filter, has-none}
 use Rattle.quorum.proofs.SetLaws.{has-members, members-range, members-nonempty, rising-members, mask-append}
 use Rattle.model.specs.Hall.{maxEntries, maxSequence, maxBuffer, maxOrder, maxViews, maxNumber, maxRecorders, Queued, normal, Hall}
-use Rattle.model.specs.Fields.{setCurrent, setService}
+use Rattle.model.specs.Fields.{setService, setHigh}
 use Rattle.model.specs.Service.{createview}
-use Rattle.model.specs.Opening.{Opening, openRefusal, founderSet, noEntries, blankSummary, noSummaries, firstView, openService, openRecorders, openHall, opened}
-use Rattle.base.proofs.UpdateLaws.{upd-ext}
-use Rattle.base.proofs.Bools.{true-or-false}
+use Rattle.model.specs.Opening.{Opening, openRefusal, founderSet, noEntries, noSummaries, firstView, openService, openRecorders, openHall, opened}
+use Rattle.base.proofs.UpdateLaws.{upd-same, upd-ext}
 use Rattle.base.proofs.ChainsLaws.{chain-none, not-refused}
-use Rattle.model.proofs.OpeningLaws.{founder-first, outsider-first}
 use Rattle.store.specs.Layout.{storedLength, recordersAt, recorderSize, numberSize, viewsAt, viewCells, viewSets}
-use Rattle.store.specs.Valid.{EachIn, ViewsIn, RecorderIn, InRange}
+use Rattle.store.specs.Valid.{ViewsIn, RecorderIn, InRange}
 use Rattle.store.specs.Cells.{entryAt, RecorderCell, blankRecorder, recorderAt, blankPlace, blankEntry, placeAt, PlaceCell}
 use Rattle.store.specs.CellForms.{viewNumber, entryList, phaseForm, entryForm, recorderForm, placeForm, queueForm}
 use Rattle.store.proofs.CellFormsLaws.{recorder-lawful}
 use Rattle.store.specs.Masks.{setForm}
 use Rattle.store.proofs.MasksLaws.{members-mask}
 use Rattle.store.specs.ViewForm.{viewForm, viewList, viewsForm}
-use Rattle.store.specs.HallForm.{entriesForm, recordersForm, rowForm, networkForm, queuesForm, bodyForm, afterSize, fields, fromHall, hallFields, hallForm}
+use Rattle.store.specs.HallForm.{entriesForm, recordersForm, rowForm, networkForm, queuesForm, bodyForm, afterSize, fields, fromHall, viewsOf, hallFields, hallForm}
 use Rattle.store.proofs.HallFormLaws.{hallFields-lawful}
 use Rattle.store.proofs.Ranges.{recorder-ok}
 use Rattle.store.proofs.HallOk.{fields-ok}
 use Rattle.store.specs.StoredForm.{stored}
 use Rattle.store.proofs.Pieces.{recorder-piece}
-use Rattle.store.proofs.Puts.{putRecorder}
+use Rattle.store.proofs.Puts.{recorderOf, placeOf, withCells, putRecorder}
 use Rattle.store.proofs.Growth.{form-bytes}
-use Rattle.store.proofs.KeepFacts.{Between, Outside, not-outside, is-false}
+use Rattle.store.proofs.KeepFacts.{Between}
 use Rattle.store.proofs.KeepEntries.{not-empty}
-use Rattle.store.proofs.KeepValid.{open-facts, opening-in}
+use Rattle.store.proofs.KeepRules.{valid-of}
+use Rattle.store.proofs.KeepValid.{start-facts, first-views, open-facts, opening-in}
 use Rattle.calls.specs.Calls.{openNumber}
-use Rattle.hall.proofs.Changes.{but-upd}
 use Rattle.hall.proofs.Writes.{write-piece}
 use Rattle.opening.specs.Opened.{founderMask, hallWith, begun, startOf, Taken}
 use Rattle.store.proofs.ViewFormLaws.{view-bytes}
@@ -117,121 +114,20 @@ members-other k m q ne =
     ∙ ap (λ (t : Bool). t && inMask m q) (has-append (upTo k) (suc k ∷ []) q ∙ ap (λ (t : Bool). has (upTo k) q || t) (has-there (suc k) [] q (ne-eqb q (suc k) ne)) ∙ or-false (has (upTo k) q))
     ∙ sym (has-filter (inMask m) (upTo k) q)
 
-first-more : (n m k : ℕ) → k < n → firstView (members (suc k) m) ≡ upd (firstView (members k m)) (suc k) (firstView (members n m) (suc k))
-unfolding firstView
-first-more n m k h =
-    let at : Bool → ℕ = λ t. elim t [ true ↦ 1 | false ↦ 0 ] in
-    upd-ext (firstView (members k m)) (firstView (members (suc k) m)) (suc k) _
-    (ap at (has-members (suc k) m (suc k) (omega arith) (omega arith) ∙ sym (has-members n m (suc k) (omega arith) h)))
-    (λ q ne. ap at (members-other k m q ne))
-
-constant : {A : Type 0} (p : ℕ) (x : A) → (λ (q : ℕ). x) ≡ upd (λ (q : ℕ). x) p x
-constant p x = but-upd {p = p} {f = λ (q : ℕ). x} {k = λ (q : ℕ). x} (λ q ne. refl)
+-- a recorder that starts, by whether it is a founder
+starting : Bool → RecorderCell
+starting t = let g : ℕ = elim t [ true ↦ 1 | false ↦ 0 ] in recorderAt (λ r. g) (setHigh (λ r. g) (openRecorders [])) 0
 
 pub begun-more : (n m k : ℕ) → k < n → begun n m (suc k) ≡ putRecorder (suc k) (startOf n m (suc k)) (begun n m k)
-unfolding begun hallWith putRecorder recorderAt openHall openService openRecorders
+unfolding begun hallWith putRecorder recorderAt placeAt openHall openService openRecorders firstView starting
 begun-more n m k h =
     let r = suc k in
-    λ i. record {
-      size = n;
-      entries = noEntries;
-      service = setCurrent (first-more n m k h i) (begun n m k .service);
-      summaries = noSummaries;
-      recorders =
-          record {
-            phase = constant r normal i;
-            known = constant r (λ e. false) i;
-            nextSeq = constant r 1 i;
-            buffer = constant r [] i;
-            order = constant r [] i;
-            safe = constant r (λ e. false) i;
-            confirm = constant r 1 i;
-            report = constant r 1 i;
-            high = first-more n m k h i;
-            heard = constant r (λ q. false) i;
-            safeSources = constant r (λ q. false) i;
-          };
-    }
-
--- each of them has its fields in range
-recorder-in : (started : List ℕ) (r : ℕ) → RecorderIn (firstView started) (openRecorders started) r
-unfolding openRecorders
-recorder-in started r =
-    let first : firstView started r ≤ maxNumber =
-    ⊎-elim (λ t. rw (founder-first started r t) (omega arith)) (λ f. rw (outsider-first started r f) (omega arith))
-    (true-or-false (has started r)) in
-    record {
-      current = first;
-      known = λ e t. absurd (false≢true t);
-      nextSeq = omega arith;
-      bufferLength = omega arith;
-      buffer = λ e t. absurd (has-none e t);
-      orderLength = omega arith;
-      order = λ e t. absurd (has-none e t);
-      safe = λ e t. absurd (false≢true t);
-      confirm = omega arith;
-      report = omega arith;
-      high = first;
-      heard = λ q t. absurd (false≢true t);
-      safeSources = λ q t. absurd (false≢true t);
-    }
-
-start-ok : (n m r : ℕ) → recorderForm .ok (startOf n m r)
-unfolding openHall openService
-start-ok n m r = recorder-ok (firstView (members n m)) (openRecorders (members n m)) r .0 (recorder-in (members n m) r)
-
-module _ (n : ℕ) (created : List ℕ) (sets : ℕ → List ℕ) (started : List ℕ)
-    (size : Between 1 maxRecorders n) (views : ViewsIn n created sets) (inside : EachIn n started) where
-  first-out : (r : ℕ) → Outside n r → firstView started r ≡ 0
-  first-out r o = outsider-first started r (is-false (λ t. not-outside (inside r t) o))
-
-  with-range : InRange (hallWith n created sets started)
-  unfolding hallWith openService openRecorders noSummaries noEntries blankSummary
-  with-range =
-      record {
-        size = size;
-        entries = record {
-          atMost = omega arith;
-          senderIn = λ e low high. absurd (omega arith);
-          valueIn = λ e low high. absurd (omega arith);
-          labelIn = λ e low high. absurd (omega arith);
-          blank = λ e o. (refl, refl, refl, refl);
-        };
-        views = views;
-        recorder = λ r low high. recorder-in started r;
-        recorderBlank = λ r o. record {
-          current = first-out r o;
-          phase = refl;
-          known = λ e. refl;
-          nextSeq = refl;
-          buffer = refl;
-          order = refl;
-          safe = λ e. refl;
-          confirm = refl;
-          report = refl;
-          high = first-out r o;
-          heard = λ q. refl;
-          safeSources = λ q. refl;
-        };
-        place = λ p g low high c. record {
-          pendingLength = omega arith;
-          pending = tt;
-          next = omega arith;
-          nextSafe = omega arith;
-          summary = record {
-            known = λ e t. absurd (false≢true t);
-            orderLength = omega arith;
-            order = λ e t. absurd (has-none e t);
-            confirm = omega arith;
-            high = omega arith;
-          };
-          unsent = λ t. refl;
-        };
-        placeBlank = λ p g o. record { pending = refl; next = refl; nextSafe = refl; sent = refl; summary = refl };
-        queueLength = λ g. omega arith;
-        queue = λ g. tt;
-        queueBlank = λ g c. refl;
-      }
+    let b = begun n m k in
+    let cells : recorderOf (begun n m r) ≡ upd (recorderOf b) r (startOf n m r) =
+    upd-ext (recorderOf b) (recorderOf (begun n m r)) r (startOf n m r)
+    (ap starting (has-members r m r (omega arith) (omega arith) ∙ sym (has-members n m r (omega arith) h)))
+    (λ q ne. ap starting (members-other k m q ne)) in
+    λ i. withCells b (viewsOf b) (cells i) (placeOf b) (b .service .queue)
 
 -- ## The bytes of a blank hall
 
@@ -294,7 +190,7 @@ module _ (n : ℕ) (size : Between 1 maxRecorders n) where
   blank-queues f = blank-table queueForm [] maxViews [] f (omega arith) (λ g k. absurd (has-none g k))
 
   blank-rest : Blank (afterSize n) (fromHall (blankHall n) .1)
-  unfolding afterSize bodyForm blankHall hallWith openService noEntries
+  unfolding afterSize bodyForm blankHall hallWith openHall openService noEntries
   blank-rest =
       blank-given (viewsForm n) (bodyForm n) ([], λ g. []) _ blank-views
       (blank-given (entriesForm n) _ (0, entryAt noEntries) _ blank-entries
@@ -302,7 +198,7 @@ module _ (n : ℕ) (size : Between 1 maxRecorders n) where
       (blank-given (networkForm n []) _ (placeAt (blankHall n .service) noSummaries) _ (blank-network _) (blank-queues _))))
 
   pub blank-bytes : stored (blankHall n) ≡ n ∷ zeros (storedLength - 1)
-  unfolding stored hallForm guarded hallFields renamed mapped fields given number blankHall hallWith
+  unfolding stored hallForm guarded hallFields renamed mapped fields given number blankHall hallWith openHall
   blank-bytes =
       let e : n - 0 ≡ n = omega arith in
       ap₂ (λ (x y : List ℕ). x ++ y) (ap (digits 1) e ∙ digits-byte n (omega (arith, size .1))) blank-rest
@@ -322,9 +218,10 @@ module _ (n m : ℕ) (size : Between 1 maxRecorders n) (some-one : 1 ≤ m) (fit
   not-none = let k = members-nonempty n m fits some-one in not-empty (members n m) (k .0) (k .1)
 
   blank-range : InRange (blankHall n)
-  unfolding blankHall rising
+  unfolding blankHall rising hallWith
   blank-range =
-      with-range n [] (λ g. []) [] size
+      valid-of _
+      (start-facts n [] (λ g. []) [] size
       (record {
         atMost = omega arith;
         rises = refl;
@@ -334,22 +231,32 @@ module _ (n m : ℕ) (size : Between 1 maxRecorders n) (some-one : 1 ≤ m) (fit
         notEmpty = λ g t. absurd (has-none g t);
         blank = λ g t. refl;
       })
-      (λ r t. absurd (has-none r t))
+      (λ r t. absurd (has-none r t))) .inRange
 
   begun-ok : (k : ℕ) → k ≤ n → hallFields .ok (begun n m k)
-  unfolding begun openHall openService
+  unfolding begun hallWith
   begun-ok k h =
       fields-ok (begun n m k) .0
-      (with-range n (1 ∷ []) (upd (λ g. []) 1 (members n m)) (members k m) size
-      (open-facts n (members n m) size (rising-members n m) (members-range n m) not-none .views .inRange)
-      (λ r t. let i = members-range k m r t in omega arith))
+      (valid-of _
+      (start-facts n (1 ∷ []) (upd (λ g. []) 1 (members n m)) (members k m) size
+      (first-views n (members n m) size (rising-members n m) (members-range n m) not-none)
+      (λ r t.
+      let i = members-range k m r t in
+      ap (λ xs. has xs r) (upd-same (λ g. []) 1 (members n m))
+      ∙ has-members n m r (i .0) (omega arith) ∙ sym (has-members k m r (i .0) (i .1)) ∙ t)) .inRange)
+
+  -- recorder r as it starts
+  start-ok : (r : ℕ) → 1 ≤ r → r ≤ n → recorderForm .ok (startOf n m r)
+  unfolding openHall
+  start-ok r low high =
+      recorder-ok _ _ r .0 (valid-of _ (open-facts n (members n m) size (rising-members n m) (members-range n m) not-none) .inRange .recorder r low high)
 
   blank-length : length (stored (blankHall n)) ≡ storedLength
   unfolding stored hallForm guarded
   blank-length = hallFields-lawful .stored (blankHall n) (fields-ok (blankHall n) .0 blank-range) .len
 
   formed : stored (begun n m 0) ≡ sets (sets (stored (blankHall n)) viewCells (viewForm n .encode (1, members n m))) viewsAt (digits 1 1)
-  unfolding stored hallForm guarded viewForm given number setForm mapped blankHall hallWith digits has
+  unfolding stored hallForm guarded viewForm given number setForm mapped blankHall hallWith openHall digits has
   formed =
       ap (hallFields .encode) (sym (begun-none n m))
       ∙ form-bytes (blankHall n) blank-range 1 refl (omega arith) (members n m)
@@ -384,13 +291,13 @@ module _ (n m : ℕ) (size : Between 1 maxRecorders n) (some-one : 1 ≤ m) (fit
   pub start-bytes : (k : ℕ) → k < n → (rest : List ℕ)
       → sets (stored (begun n m k) ++ rest) (recordersAt + k * recorderSize) (recorderForm .encode (startOf n m (k + 1)))
       ≡ stored (begun n m (k + 1)) ++ rest
-  unfolding begun hallWith
+  unfolding begun hallWith openHall
   start-bytes k h rest =
       let more : k + 1 ≡ suc k = add-one k in
       let last : k ≡ suc k - 1 = omega arith in
       ap₂ (λ (i r : ℕ). sets (stored (begun n m k) ++ rest) (recordersAt + i * recorderSize) (recorderForm .encode (startOf n m r))) last more
       ∙ write-piece (begun n m k) (begun-ok k (omega arith)) rest recorder-lawful (recorder-piece (suc k)) (omega arith, h)
-      (startOf n m (suc k)) (start-ok n m (suc k))
+      (startOf n m (suc k)) (start-ok (suc k) (omega arith) h)
       ∙ ap (λ (g : Hall). stored g ++ rest) (sym (begun-more n m k h) ∙ ap (begun n m) (sym more))
 
 module _ (b : List ℕ) (o : Opening) where

@@ -7,11 +7,10 @@ use lib.Dec.{eqb}
 use lib.ListN.{length}
 use lib.Seq.{sets}
 use Rattle.base.specs.Update.{upd}
-use Rattle.base.specs.Numbers.{upTo}
 use Rattle.quorum.specs.Sets.{members}
 use Rattle.model.specs.Hall.{Hall, maxRecorders}
-use Rattle.model.specs.Fields.{setCreated, setMembers}
-use Rattle.model.specs.Opening.{Opening, noEntries, noSummaries, openService, openRecorders, openHall}
+use Rattle.model.specs.Fields.{setCreated, setMembers, setService}
+use Rattle.model.specs.Opening.{Opening, openService, openHall}
 use Rattle.store.specs.Layout.{storedLength}
 use Rattle.store.specs.Valid.{RecorderIn, InRange}
 use Rattle.store.specs.Cells.{RecorderCell, recorderAt}
@@ -27,13 +26,7 @@ founderMask o = elim (eqb (o .founders) 0) [ true ↦ 2 ^ o .size - 1 | false �
 -- the hall of n recorders with the given views, in which the listed recorders stand in view 1 and all else is blank
 unfoldable pub hallWith : ℕ → List ℕ → (ℕ → List ℕ) → List ℕ → Hall
 hallWith n created sets started =
-    record {
-      size = n;
-      entries = noEntries;
-      service = setCreated created (setMembers sets (openService started));
-      summaries = noSummaries;
-      recorders = openRecorders started;
-    }
+    setService (setCreated created (setMembers sets (openService started))) (openHall n started)
 
 -- view 1 is formed with the set of mask m, and its members among recorders 1 to k have started
 unfoldable pub begun : ℕ → ℕ → ℕ → Hall

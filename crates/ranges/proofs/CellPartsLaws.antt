@@ -11,16 +11,16 @@ use borrow.Author.Tests.{eq-eqb, ne-eqb, lt-leb}
 use Rattle.codec.specs.Bytes.{Block, part, allZero}
 use Rattle.codec.proofs.BytesLaws.{drop-part}
 use Rattle.codec.specs.Form.{Form, mapped, renamed, guarded}
-use Rattle.codec.specs.Number.{value, number, byte, mark, word, between}
+use Rattle.codec.specs.Number.{value, number, byte, mark, between}
 use Rattle.codec.proofs.NumberLaws.{value-byte}
 use Rattle.codec.specs.Pair.{given}
 use Rattle.codec.specs.Cells.{validAll, cells}
 use Rattle.codec.specs.Bounded.{bounded, optional}
 use Rattle.codec.specs.Table.{flags}
-use Rattle.model.specs.Hall.{maxSequence, maxEntries, maxBuffer, maxOrder, maxNumber, maxPending, maxQueue, maxRecorders}
+use Rattle.model.specs.Hall.{maxSequence, maxEntries, maxBuffer, maxOrder, maxNumber, maxPending, maxQueue, maxRecorders, Payload}
 use Rattle.store.specs.Layout.{entrySize, recorderSize, placeSize, summarySize, viewSize, numberSize, wordSize, viewSetAt, payloadSize, entryPayloadAt, listSize, summaryOrderAt, sentSize, queuedMessageAt, queuedSize}
 use Rattle.store.specs.Cells.{EntryCell}
-use Rattle.store.specs.CellForms.{viewNumber, entryList, labelWhole, entryForm, summaryForm, sentForm, phaseForm, recorderForm, messageForm, placeForm, queuedForm}
+use Rattle.store.specs.CellForms.{viewNumber, entryList, labelWhole, payloadForm, entryForm, summaryForm, sentForm, phaseForm, recorderForm, messageForm, placeForm, queuedForm}
 use Rattle.store.specs.Masks.{setForm}
 use Rattle.store.specs.ViewForm.{viewForm}
 use Rattle.ranges.proofs.Parts.{pair-part, given-value, word-part}
@@ -39,28 +39,28 @@ some-label g k e = ap (λ (t : Bool). elim t [ true ↦ eqb k 0 | false ↦ not 
 module _ (n o : ℕ) (b : List ℕ) where
   -- the cell at offset o
   pub entry-value : o + entrySize ≤ length b → entryForm n .decode (part o entrySize b)
-      ≡ record { sender = getD b o 0; value = value (part (o + entryPayloadAt) wordSize b); labelView = value (part (o + entryPayloadAt + payloadSize) numberSize b); labelSeq = getD b (o + entryPayloadAt + payloadSize + numberSize) 0 }
-  unfolding entryForm guarded renamed mapped viewNumber number
+      ≡ record { sender = getD b o 0; payload = record { value = value (part (o + entryPayloadAt) wordSize b) }; labelView = value (part (o + entryPayloadAt + payloadSize) numberSize b); labelSeq = getD b (o + entryPayloadAt + payloadSize + numberSize) 0 }
+  unfolding entryForm payloadForm guarded renamed mapped viewNumber number
   entry-value h =
       let plus : (x : ℕ) → x + 0 ≡ x = λ x. omega arith in
-      let low = given-value (byte 1 n) (λ a. given word (λ a. given viewNumber (λ a. byte 0 maxSequence))) o b in
-      let mid = given-value word (λ a. given viewNumber (λ a. byte 0 maxSequence)) (o + entryPayloadAt) b in
+      let low = given-value (byte 1 n) (λ a. given payloadForm (λ a. given viewNumber (λ a. byte 0 maxSequence))) o b in
+      let mid = given-value payloadForm (λ a. given viewNumber (λ a. byte 0 maxSequence)) (o + entryPayloadAt) b in
       let high = given-value viewNumber (λ a. byte 0 maxSequence) (o + entryPayloadAt + payloadSize) b in
       let s : value (part o 1 b) + 0 ≡ getD b o 0 = plus _ ∙ value-byte o b (omega arith) in
-      let v : value (part (o + entryPayloadAt) wordSize b) + 0 ≡ value (part (o + entryPayloadAt) wordSize b) = plus _ in
+      let v = ap (λ (y : ℕ). let x : Payload = record { value = y } in x) (plus (value (part (o + entryPayloadAt) wordSize b))) in
       let g : value (part (o + entryPayloadAt + payloadSize) numberSize b) + 0 ≡ value (part (o + entryPayloadAt + payloadSize) numberSize b) = plus _ in
       let k : value (part (o + entryPayloadAt + payloadSize + numberSize) 1 b) + 0 ≡ getD b (o + entryPayloadAt + payloadSize + numberSize) 0 = plus _ ∙ value-byte (o + entryPayloadAt + payloadSize + numberSize) b (omega arith) in
-      ap (λ (t : ℕ × (ℕ × (ℕ × ℕ))). let x : EntryCell = record { sender = t .0; value = t .1 .0; labelView = t .1 .1 .0; labelSeq = t .1 .1 .1 } in x)
+      ap (λ (t : ℕ × (Payload × (ℕ × ℕ))). let x : EntryCell = record { sender = t .0; payload = t .1 .0; labelView = t .1 .1 .0; labelSeq = t .1 .1 .1 } in x)
       (low ∙ (λ i. (s i, (mid ∙ (λ j. (v j, (high ∙ (λ l. (g l, k l))) j))) i)))
 
   pub entry-part : {m : ℕ} → o + entrySize ≤ m → Block m b → entryForm n .valid (part o entrySize b)
       ≡ (byte 1 n .valid (part o 1 b) && (viewNumber .valid (part (o + entryPayloadAt + payloadSize) numberSize b) && byte 0 maxSequence .valid (part (o + entryPayloadAt + payloadSize + numberSize) 1 b)))
       && wholeLabel (value (part (o + entryPayloadAt + payloadSize) numberSize b)) (getD b (o + entryPayloadAt + payloadSize + numberSize) 0)
-  unfolding entryForm guarded renamed mapped wholeLabel labelWhole
+  unfolding entryForm payloadForm guarded renamed mapped wholeLabel labelWhole
   entry-part h k =
       ap₂ _&&_
       (pair-part (byte 1 n) _ o b
-      (pair-part word _ (o + entryPayloadAt) b (pair-part viewNumber _ (o + entryPayloadAt + payloadSize) b refl)
+      (pair-part payloadForm _ (o + entryPayloadAt) b (pair-part viewNumber _ (o + entryPayloadAt + payloadSize) b refl)
       ∙ ap (λ (t : Bool). t && (viewNumber .valid (part (o + entryPayloadAt + payloadSize) numberSize b) && byte 0 maxSequence .valid (part (o + entryPayloadAt + payloadSize + numberSize) 1 b))) (word-part (o + entryPayloadAt) b (omega arith) k)))
       (ap labelWhole (entry-value (omega (arith, k .len))))
 

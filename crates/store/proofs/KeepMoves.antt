@@ -1,8 +1,8 @@
 -- Every move keeps the facts of a hall that has a stored form, from any such hall.
 -- Assumes nothing.
-use Prim.Native.Nat.{ℕ, _+_, _^_, _≤_, _<_}
+use Prim.Native.Nat.{ℕ, _+_, _≤_, _<_}
 use native.Mathlib.Omega.{arith}
-use mathlib.Core.Path.{_≡_, refl, sym, ap, _∙_, subst₂}
+use mathlib.Core.Path.{_≡_, refl, sym, ap, _∙_, subst, subst₂}
 use mathlib.Core.Logic.{_⊎_, inr, ⊎-elim}
 use mathlib.Core.Bool.{Bool, true, false, _&&_, _||_, true≢false, false≢true}
 use mathlib.Core.List.{List, [], _∷_}
@@ -13,40 +13,60 @@ use Rattle.base.specs.Lists.{has}
 use Rattle.quorum.specs.Sets.{members}
 use Rattle.base.proofs.ListsLaws.{has-head, has-none, greatest-above, greatest-least}
 use Rattle.base.specs.Update.{upd, upd₂}
-use Rattle.model.specs.Hall.{maxEntries, maxSequence, maxBuffer, maxOrder, maxNumber, Entries, Message, Message.entry, Message.summary, Queued, Summary, normal, send, collect, Recorders, Hall}
-use Rattle.model.specs.Fields.{setPending, setQueue, setNext, setNextSafe, setService, setRecorders, setSafe}
+use Rattle.model.specs.Hall.{maxEntries, maxSequence, maxBuffer, maxOrder, maxNumber, Payload, Entries, Message, Message.entry, Message.summary, Queued, Service, Summary, Summaries, normal, send, collect, Recorders, Hall}
+use Rattle.model.specs.Fields.{setPending, setQueue, setNext, setNextSafe, setSafe, setEntries, setService, setSummaries, setRecorders}
 use Rattle.model.specs.Service.{exceedsCreated, createview, newview, gpsnd, vsOrder, gprcv, safe}
 use Rattle.model.specs.Ordering.{Choice, shortorder, fullorder, builtOrder, builtHigh, maxprimary, maxnextconfirm, labelled, sentEntry, summaryOf, sentSummary, entered, heardSummary, established, completes, heardSources, confirmed, reported}
 use Rattle.model.specs.Refusals.{Rules, isPrimary, summariesOf, orderFull, builtTooLong, noRoomToReceive, sequenceFull, bufferFull, newLabelExists, summaryPlaceFull, pendingFull, queueFull}
 use Rattle.model.proofs.Accepting.Room.{isFull, Fits}
 use Rattle.model.specs.Actions.{doSubmit, doForm}
 use Rattle.model.proofs.Accepting.Moves.{current, membersOf, At, queued, CanLabel, afterLabel, CanSendEntry, afterSendEntry, CanSendSummary, afterSendSummary, CanForm, CanEnter, afterEnter, CanOrder, afterOrder, CanReceive, afterReceive, learnt, joined, told, CanNotice, afterNotice, safeFrom, builtAt, heardOrder, CanConfirm, CanDeliver, Move, submits, labels, sendsEntry, sendsSummary, forms, enters, orders, receives, receivesPrimary, hears, hearsLast, notices, noticesPrimary, noticesSummary, noticesLast, confirms, delivers}
-use Rattle.base.proofs.UpdateLaws.{at-place₂, upd-at, upd-at-both, upd₂-same, upd₂-other, upd₂-at}
+use Rattle.base.proofs.UpdateLaws.{at-place₂, upd-at, upd-at-both, upd₂-same, upd₂-other, upd₂-at, upd-same}
 use Rattle.base.proofs.Bools.{not-both, and-true, or-none}
 use Rattle.model.proofs.ServiceLaws.{order-queue, order-pending}
 use Rattle.model.proofs.Ordering.Waiting.{first-waiting}
 use Rattle.model.proofs.Ordering.FullOrder.{known-from, full-in}
-use Rattle.store.proofs.KeepFacts.{Between, none, Named, Names, RecorderFacts, SourceFacts, SummaryFacts, QueuedOf, TrafficFacts, MarkIn, Facts, inside?, member-in, listed-names, names-listed}
+use Rattle.store.specs.Valid.{PayloadIn}
+use Rattle.store.proofs.KeepFacts.{Between, none, Named, Names, EntryFacts, ViewFacts, RecorderFacts, SourceFacts, SummaryFacts, SentFacts, QueuedOf, TrafficFacts, MarkIn, Facts, inside?, member-in, listed-names, names-listed}
 use Rattle.store.proofs.KeepParts.{names-more, names-join, listed-rest, at-phase, at-known, at-nextSeq, at-buffer, at-order, at-safe, at-confirm, at-report, at-high, at-heard, at-safeSources, Grows, recorders-grow, sources-grow, sums-grow, traffic-grow, each-at, at-pending, at-queue, at-mark, mark-grow}
 use Rattle.store.proofs.KeepEntries.{submit-keeps, label-keeps, form-keeps}
 
 -- ## Parts of a hall replaced
 
+-- entries grow, the rest left alone
+entries-grow : (es es′ : Entries) (S : ℕ → List ℕ) (sent : ℕ → ℕ → Bool) → ((e : ℕ) → Named es e → Named es′ e)
+    → Grows es es′ S S sent sent
+entries-grow es es′ S sent named = record { named = named; member = λ g p t. t; sent = λ p g t. t }
+
 module _ (h : Hall) (f : Facts h) where
+  -- other entries, group service, summaries and recorders
+  with-parts : (es : Entries) (v : Service) (x : Summaries) (s : Recorders)
+      → EntryFacts (h .size) es
+      → ViewFacts (h .size) (v .created) (v .members) (v .current)
+      → RecorderFacts (h .size) es s
+      → SourceFacts (v .members) (v .current) (x .sent) (s .heard) (s .safeSources)
+      → SentFacts es (v .members) x
+      → TrafficFacts es (v .members) (x .sent) (v .pending) (v .queue)
+      → ((p g : ℕ) → MarkIn (h .size) (v .created) p g (v .next p g))
+      → ((p g : ℕ) → MarkIn (h .size) (v .created) p g (v .nextSafe p g))
+      → Facts (setEntries es (setService v (setSummaries x (setRecorders s h))))
+  with-parts es v x s entries views recorders sources sums traffic next nextSafe =
+      record {
+        size = f .size;
+        entries = entries;
+        views = views;
+        recorders = recorders;
+        sources = sources;
+        sums = sums;
+        traffic = traffic;
+        next = next;
+        nextSafe = nextSafe;
+      }
+
   with-recorders : (s : Recorders) → RecorderFacts (h .size) (h .entries) s
       → SourceFacts (membersOf h) (current h) (h .summaries .sent) (s .heard) (s .safeSources) → Facts (setRecorders s h)
   with-recorders s rs ss =
-      record {
-        size = f .size;
-        entries = f .entries;
-        views = f .views;
-        recorders = rs;
-        sources = ss;
-        sums = f .sums;
-        traffic = f .traffic;
-        next = f .next;
-        nextSafe = f .nextSafe;
-      }
+      with-parts (h .entries) (h .service) (h .summaries) s (f .entries) (f .views) rs ss (f .sums) (f .traffic) (f .next) (f .nextSafe)
 
   with-service : (pending : ℕ → ℕ → List Message) (queue : ℕ → List Queued) (next nextSafe : ℕ → ℕ → ℕ)
       → TrafficFacts (h .entries) (membersOf h) (h .summaries .sent) pending queue
@@ -54,17 +74,17 @@ module _ (h : Hall) (f : Facts h) where
       → ((p g : ℕ) → MarkIn (h .size) (h .service .created) p g (nextSafe p g))
       → Facts (setService (setPending pending (setQueue queue (setNext next (setNextSafe nextSafe (h .service))))) h)
   with-service pending queue next nextSafe t a b =
-      record {
-        size = f .size;
-        entries = f .entries;
-        views = f .views;
-        recorders = f .recorders;
-        sources = f .sources;
-        sums = f .sums;
-        traffic = t;
-        next = a;
-        nextSafe = b;
-      }
+      with-parts (h .entries) (setPending pending (setQueue queue (setNext next (setNextSafe nextSafe (h .service))))) (h .summaries)
+      (h .recorders) (f .entries) (f .views) (f .recorders) (f .sources) (f .sums) t a b
+
+  -- other entries, which name what the old ones named, and recorders
+  with-entries : (es : Entries) (s : Recorders) → EntryFacts (h .size) es → ((e : ℕ) → Named (h .entries) e → Named es e)
+      → RecorderFacts (h .size) es s
+      → SourceFacts (membersOf h) (current h) (h .summaries .sent) (s .heard) (s .safeSources)
+      → Facts (setEntries es (setRecorders s h))
+  with-entries es s ef named rs ss =
+      let gr = entries-grow (h .entries) es (membersOf h) (h .summaries .sent) named in
+      with-parts es (h .service) (h .summaries) s ef (f .views) rs ss (sums-grow gr (f .sums)) (traffic-grow gr (f .traffic)) (f .next) (f .nextSafe)
 
   -- a recorder with a view is a member of it, and the view is formed
   here-member : (r : ℕ) → 1 ≤ current h r → has (membersOf h (current h r)) r ≡ true
@@ -121,28 +141,12 @@ second true b f t = f
 second false b f t = absurd (true≢false (sym t))
 
 module _ (h : Hall) (f : Facts h) where
-  -- entries grow, the rest left alone
-  entries-grow : (es : Entries) → ((e : ℕ) → Named (h .entries) e → Named es e)
-      → Grows (h .entries) es (membersOf h) (membersOf h) (h .summaries .sent) (h .summaries .sent)
-  entries-grow es named = record { named = named; member = λ g p t. t; sent = λ p g t. t }
-
-  keep-submit : (r a : ℕ) → Between 1 (h .size) r → h .entries .count < maxEntries
-      → ((e : ℕ) → doSubmit h r a .hall .entries .value e < 2 ^ 32) → Facts (doSubmit h r a .hall)
+  keep-submit : (r : ℕ) (a : Payload) → Between 1 (h .size) r → h .entries .count < maxEntries → PayloadIn a → Facts (doSubmit h r a .hall)
   unfolding doSubmit
-  keep-submit r a i room low =
-      let es = submit-keeps (h .size) (h .entries) (f .entries) r a i room low in
-      let gr = entries-grow _ (es .1) in
-      record {
-        size = f .size;
-        entries = es .0;
-        views = f .views;
-        recorders = recorders-grow gr (f .recorders);
-        sources = f .sources;
-        sums = sums-grow gr (f .sums);
-        traffic = traffic-grow gr (f .traffic);
-        next = f .next;
-        nextSafe = f .nextSafe;
-      }
+  keep-submit r a i room carried =
+      let es = submit-keeps (h .size) (h .entries) (f .entries) r a i room carried in
+      let gr = entries-grow (h .entries) _ (membersOf h) (h .summaries .sent) (es .1) in
+      with-entries h f _ (h .recorders) (es .0) (es .1) (recorders-grow gr (f .recorders)) (f .sources)
 
   keep-label : (r e : ℕ) → CanLabel h r e → (sequenceFull h r || (bufferFull h r || newLabelExists h r)) ≡ false
       → Facts (afterLabel h r e)
@@ -157,23 +161,13 @@ module _ (h : Hall) (f : Facts h) where
       let view : Between 1 maxNumber g = (c .inView, view-in h f r (c .inView)) in
       let seq : Between 1 maxSequence k = (f .recorders .nextSeq .holds r .0, ltb-false _ _ (free .0)) in
       let es = label-keeps (h .size) (h .entries) (f .entries) r e g k first view seq (more .1) in
-      let gr = entries-grow _ (es .1) in
-      let rs = recorders-grow gr (f .recorders) in
-      record {
-        size = f .size;
-        entries = es .0;
-        views = f .views;
-        recorders =
-            at-known
-            (at-buffer (at-nextSeq rs i (k + 1) (omega (arith, seq))) i _
-            (within-push _ maxBuffer (h .recorders .buffer r) e (leb-false _ _ (more .0)) (rs .buffer .holds r) (es .2)))
-            i _ (names-more _ (h .recorders .known r) e (rs .known .holds r) (es .2));
-        sources = f .sources;
-        sums = sums-grow gr (f .sums);
-        traffic = traffic-grow gr (f .traffic);
-        next = f .next;
-        nextSafe = f .nextSafe;
-      }
+      let rs = recorders-grow (entries-grow (h .entries) _ (membersOf h) (h .summaries .sent) (es .1)) (f .recorders) in
+      with-entries h f _ _ (es .0) (es .1)
+      (at-known
+      (at-buffer (at-nextSeq rs i (k + 1) (omega (arith, seq))) i _
+      (within-push _ maxBuffer (h .recorders .buffer r) e (leb-false _ _ (more .0)) (rs .buffer .holds r) (es .2)))
+      i _ (names-more _ (h .recorders .known r) e (rs .known .holds r) (es .2)))
+      (f .sources)
 
   keep-send-entry : (r e : ℕ) → CanSendEntry h r e → pendingFull h r ≡ false → Facts (afterSendEntry h r e)
   unfolding gpsnd sentEntry pendingFull
@@ -200,33 +194,27 @@ module _ (h : Hall) (f : Facts h) where
         sent = upd₂-at (λ p v b. x .sent p v ≡ true → b ≡ true) (x .sent) r g true (λ t. refl) (λ p v ne t. t);
       } in
       let mine = here-member h f r (c .inView) in
-      record {
-        size = f .size;
-        entries = f .entries;
-        views = f .views;
-        recorders = at-phase rs (here-in h f r (c .inView) .0) collect;
-        sources = sources-grow gr (f .sources);
-        sums = record {
-          sent = upd₂-at (λ p v b. b ≡ true → has (membersOf h v) p ≡ true) (x .sent) r g true
-              (λ t. mine) (λ p v ne. f .sums .sent p v);
-          unsent = at-place₂ _ r g
-              (λ t. absurd (not-both (upd₂-same (x .sent) r g true) t))
-              (λ p v ne t.
-              upd₂-other (x .summary) r g _ p v ne ∙ f .sums .unsent p v (sym (upd₂-other (x .sent) r g true p v ne) ∙ t));
-          summary = upd₂-at (λ p v. SummaryFacts (h .entries)) (x .summary) r g _
-              (record {
-                known = rs .known .holds r;
-                order = rs .order .holds r;
-                confirm = rs .confirm .holds r;
-                high = rs .high .holds r;
-              })
-              (λ p v ne. f .sums .summary p v);
-        };
-        traffic = at-pending (traffic-grow gr (f .traffic)) r g summary (mine, upd₂-same (x .sent) r g true)
-            (leb-false _ _ (or-none (summaryPlaceFull h r) (pendingFull h r) room .1));
-        next = f .next;
-        nextSafe = f .nextSafe;
-      }
+      with-parts h f (h .entries) _ _ _ (f .entries) (f .views) (at-phase rs (here-in h f r (c .inView) .0) collect)
+      (sources-grow gr (f .sources))
+      (record {
+        sent = upd₂-at (λ p v b. b ≡ true → has (membersOf h v) p ≡ true) (x .sent) r g true
+            (λ t. mine) (λ p v ne. f .sums .sent p v);
+        unsent = at-place₂ _ r g
+            (λ t. absurd (not-both (upd₂-same (x .sent) r g true) t))
+            (λ p v ne t.
+            upd₂-other (x .summary) r g _ p v ne ∙ f .sums .unsent p v (sym (upd₂-other (x .sent) r g true p v ne) ∙ t));
+        summary = upd₂-at (λ p v. SummaryFacts (h .entries)) (x .summary) r g _
+            (record {
+              known = rs .known .holds r;
+              order = rs .order .holds r;
+              confirm = rs .confirm .holds r;
+              high = rs .high .holds r;
+            })
+            (λ p v ne. f .sums .summary p v);
+      })
+      (at-pending (traffic-grow gr (f .traffic)) r g summary (mine, upd₂-same (x .sent) r g true)
+      (leb-false _ _ (or-none (summaryPlaceFull h r) (pendingFull h r) room .1)))
+      (f .next) (f .nextSafe)
 
   keep-form : (a b : ℕ) → CanForm h a b → Facts (doForm h a b .hall)
   unfolding doForm createview exceedsCreated
@@ -237,48 +225,33 @@ module _ (h : Hall) (f : Facts h) where
       (c .someone) (c .fits) in
       let gr : Grows (h .entries) (h .entries) S (upd S a (members (h .size) b)) (h .summaries .sent) (h .summaries .sent) =
       record { named = λ e t. t; member = vs .1; sent = λ p g t. t } in
-      record {
-        size = f .size;
-        entries = f .entries;
-        views = vs .0;
-        recorders = f .recorders;
-        sources = sources-grow gr (f .sources);
-        sums = sums-grow gr (f .sums);
-        traffic = traffic-grow gr (f .traffic);
-        next = λ p g. mark-grow (vs .2) (f .next p g);
-        nextSafe = λ p g. mark-grow (vs .2) (f .nextSafe p g);
-      }
+      with-parts h f (h .entries) _ (h .summaries) (h .recorders) (f .entries) (vs .0) (f .recorders) (sources-grow gr (f .sources))
+      (sums-grow gr (f .sums)) (traffic-grow gr (f .traffic)) (λ p g. mark-grow (vs .2) (f .next p g))
+      (λ p g. mark-grow (vs .2) (f .nextSafe p g))
 
   keep-enter : (r a : ℕ) → CanEnter h r a → Facts (afterEnter h r a)
   unfolding newview entered
   keep-enter r a c =
       let i = member-in (f .views .inRange) a r (c .member) .0 in
       let sent = h .summaries .sent in
-      record {
-        size = f .size;
-        entries = f .entries;
-        views = record {
-          inRange = f .views .inRange;
-          current = upd-at (λ p g. (g ≡ 0) ⊎ (has (membersOf h g) p ≡ true)) (current h) r a
-              (inr (c .member)) (λ p ne. f .views .current p);
-        };
-        recorders =
-            at-nextSeq
-            (at-buffer
-            (at-heard (at-safeSources (at-safe (at-phase (f .recorders) i send) i none (λ e t. absurd (false≢true t))) _) _)
-            i [] (within-nil (Named (h .entries)) _))
-            i 1 (omega arith);
-        sources = record {
-          heard = upd-at-both (λ p g s. (q : ℕ) → s q ≡ true → (has (membersOf h g) q && sent q g) ≡ true)
-              (current h) (h .recorders .heard) r a none (λ q t. absurd (false≢true t)) (λ p ne. f .sources .heard p);
-          safe = upd-at-both (λ p g s. (q : ℕ) → s q ≡ true → has (membersOf h g) q ≡ true)
-              (current h) (h .recorders .safeSources) r a none (λ q t. absurd (false≢true t)) (λ p ne. f .sources .safe p);
-        };
-        sums = f .sums;
-        traffic = f .traffic;
-        next = f .next;
-        nextSafe = f .nextSafe;
-      }
+      with-parts h f (h .entries) _ (h .summaries) _ (f .entries)
+      (record {
+        inRange = f .views .inRange;
+        current = upd-at (λ p g. (g ≡ 0) ⊎ (has (membersOf h g) p ≡ true)) (current h) r a
+            (inr (c .member)) (λ p ne. f .views .current p);
+      })
+      (at-nextSeq
+      (at-buffer
+      (at-heard (at-safeSources (at-safe (at-phase (f .recorders) i send) i none (λ e t. absurd (false≢true t))) _) _)
+      i [] (within-nil (Named (h .entries)) _))
+      i 1 (omega arith))
+      (record {
+        heard = upd-at-both (λ p g s. (q : ℕ) → s q ≡ true → (has (membersOf h g) q && sent q g) ≡ true)
+            (current h) (h .recorders .heard) r a none (λ q t. absurd (false≢true t)) (λ p ne. f .sources .heard p);
+        safe = upd-at-both (λ p g s. (q : ℕ) → s q ≡ true → has (membersOf h g) q ≡ true)
+            (current h) (h .recorders .safeSources) r a none (λ q t. absurd (false≢true t)) (λ p ne. f .sources .safe p);
+      })
+      (f .sums) (f .traffic) (f .next) (f .nextSafe)
 
   keep-order : (r a : ℕ) (m : Message) → CanOrder h r a m → queueFull h a ≡ false → Facts (afterOrder h r a)
   unfolding vsOrder queueFull
@@ -437,25 +410,27 @@ module _ (rules : Rules) (h : Hall) (f : Facts h) (r q : ℕ) where
         (λ q. f .sums .summary q g))))
         safe-sources (c .here)
 
--- every move for which there is room keeps the facts, if values stay below 2 ^ 32
-pub facts-keep : (rules : Rules) (h h′ : Hall) (m : Move rules h h′) → Fits m → ((e : ℕ) → h′ .entries .value e < 2 ^ 32)
+-- every move for which there is room keeps the facts, if payloads stay in range
+pub facts-keep : (rules : Rules) (h h′ : Hall) (m : Move rules h h′) → Fits m → ((e : ℕ) → PayloadIn (h′ .entries .payload e))
     → Facts h → Facts h′
-unfolding Fits isFull
-facts-keep rules h _ (submits r a low high more) room values f = keep-submit h f r a (low, high) more values
-facts-keep rules h _ (labels r e c) room values f = keep-label h f r e c room
-facts-keep rules h _ (sendsEntry r e c) room values f = keep-send-entry h f r e c room
-facts-keep rules h _ (sendsSummary r c) room values f = keep-send-summary h f r c room
-facts-keep rules h _ (forms a b c) room values f = keep-form h f a b c
-facts-keep rules h _ (enters r a c) room values f = keep-enter h f r a c
-facts-keep rules h _ (orders r a m c) room values f = keep-order h f r a m c room
-facts-keep rules h _ (receives r q e c t) room values f = keep-learnt rules h f r q e c
-facts-keep rules h _ (receivesPrimary r q e c t) room values f = keep-joined rules h f r q e c t room
-facts-keep rules h _ (hears r q c t) room values f = keep-told rules h f r q c
-facts-keep rules h _ (hearsLast r q c t) room values f = keep-built rules h f r q c t room
-facts-keep rules h _ (notices r q e c t) room values f =
+unfolding doSubmit Fits isFull
+facts-keep rules h _ (submits r a low high more) room carried f =
+    let n = h .entries .count + 1 in
+    keep-submit h f r a (low, high) more (subst PayloadIn (upd-same (h .entries .payload) n a) (carried n))
+facts-keep rules h _ (labels r e c) room carried f = keep-label h f r e c room
+facts-keep rules h _ (sendsEntry r e c) room carried f = keep-send-entry h f r e c room
+facts-keep rules h _ (sendsSummary r c) room carried f = keep-send-summary h f r c room
+facts-keep rules h _ (forms a b c) room carried f = keep-form h f a b c
+facts-keep rules h _ (enters r a c) room carried f = keep-enter h f r a c
+facts-keep rules h _ (orders r a m c) room carried f = keep-order h f r a m c room
+facts-keep rules h _ (receives r q e c t) room carried f = keep-learnt rules h f r q e c
+facts-keep rules h _ (receivesPrimary r q e c t) room carried f = keep-joined rules h f r q e c t room
+facts-keep rules h _ (hears r q c t) room carried f = keep-told rules h f r q c
+facts-keep rules h _ (hearsLast r q c t) room carried f = keep-built rules h f r q c t room
+facts-keep rules h _ (notices r q e c t) room carried f =
     keep-notice h f r (queued q (entry e)) (c .inView) (h .recorders) (f .recorders) (f .sources) (c .here)
-facts-keep rules h _ (noticesPrimary r q e c t) room values f = keep-safe rules h f r q e c
-facts-keep rules h _ (noticesSummary r q c t) room values f = keep-source rules h f r q c
-facts-keep rules h _ (noticesLast r q c t u) room values f = keep-all-safe rules h f r q c
-facts-keep rules h _ (confirms r c) room values f = keep-confirm h f r c
-facts-keep rules h _ (delivers r c) room values f = keep-deliver h f r c
+facts-keep rules h _ (noticesPrimary r q e c t) room carried f = keep-safe rules h f r q e c
+facts-keep rules h _ (noticesSummary r q c t) room carried f = keep-source rules h f r q c
+facts-keep rules h _ (noticesLast r q c t u) room carried f = keep-all-safe rules h f r q c
+facts-keep rules h _ (confirms r c) room carried f = keep-confirm h f r c
+facts-keep rules h _ (delivers r c) room carried f = keep-deliver h f r c

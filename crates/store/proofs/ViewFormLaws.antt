@@ -27,6 +27,7 @@ use Rattle.codec.proofs.FormLaws.{Lawful, Inverse, mapped-lawful, guarded-lawfu
 use Rattle.codec.proofs.PairLaws.{pair-lawful}
 use Rattle.codec.specs.Bounded.{bounded}
 use Rattle.codec.proofs.BoundedLaws.{bounded-lawful}
+use Rattle.base.proofs.Bools.{by-cases}
 
 pub view-lawful : (n : ℕ) → n ≤ 8 → Lawful (viewForm n)
 unfolding viewForm

@@ -116,7 +116,7 @@ module _ (b : List ℕ) (K : Held hallFields b) where
   pub raw-entry : (e : ℕ) → 1 ≤ e → e ≤ entryCount b → entryAt (raw b .entries) e
       ≡ record {
         sender = getD b (entryCells + (e - 1) * entrySize) 0;
-        value = value (part (entryCells + (e - 1) * entrySize + entryPayloadAt) wordSize b);
+        payload = record { value = value (part (entryCells + (e - 1) * entrySize + entryPayloadAt) wordSize b) };
         labelView = value (part (entryCells + (e - 1) * entrySize + entryPayloadAt + payloadSize) numberSize b);
         labelSeq = getD b (entryCells + (e - 1) * entrySize + entryPayloadAt + payloadSize + numberSize) 0;
       }

@@ -47,7 +47,7 @@ returns-3 : tie.Need-returns-3
 unfolding meaning answerFields from-word
 returns-3 c =
     let s = c .before .before .a2 .given .0 .0 in
-    rw (c .before .before .a2 .given .1) (omega (arith, length-fields from-word (decimal (s .sender) ∷ decimal (s .value) ∷ [])))
+    rw (c .before .before .a2 .given .1) (omega (arith, length-fields from-word (decimal (s .sender) ∷ decimal (s .payload .value) ∷ [])))
 
 returns-4 : tie.Need-returns-4
 unfolding meaning answerFields refused-word

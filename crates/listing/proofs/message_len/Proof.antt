@@ -1,5 +1,6 @@
 -- Each arm gives the length of its case. Assumes nothing.
 use native.Mathlib.Omega.{arith}
+use Rattle.model.specs.Payloads.{payloadMeaning}
 use Rattle.model.specs.Listing.{answerFields}
 use Rattle.answer.specs.Meaning.{contentMeaning}
 use Rattle.listing.proofs.LinesLaws.{length-entry, length-summary}
@@ -56,7 +57,7 @@ returns : tie.Need-returns
 unfolding contentMeaning answerFields
 returns c =
     let e = c .before .before .before .content .given .0 .0 in
-    rw (c .before .before .before .content .given .1) (omega (arith, length-entry (e .view) (e .seq) (e .sender) (e .value)))
+    rw (c .before .before .before .content .given .1) (omega (arith, length-entry (e .view) (e .seq) (e .sender) (payloadMeaning (e .payload))))
 
 returns-2 : tie.Need-returns-2
 unfolding contentMeaning answerFields

@@ -1,5 +1,6 @@
 -- The word, the label and the value. Assumes nothing.
 use native.Mathlib.Omega.{arith}
+use Rattle.model.specs.Payloads.{payloadMeaning}
 use Rattle.model.specs.Listing.{fieldsAfter, entry-word}
 use Rattle.text.proofs.TextLaws.{then}
 use Rattle.listing.proofs.LinesLaws.{length-entry}
@@ -11,13 +12,13 @@ slice-aggregate-put-field : tie.Need-slice-aggregate-put-field
 slice-aggregate-put-field c = search needs
 
 put-field-requires : tie.Need-put-field-requires
-put-field-requires c κs = let a = c .before .before .before .args in record { fits = omega (arith, length-entry (a .e .view) (a .e .seq) (a .e .sender) (a .e .value)) }
+put-field-requires c κs = let a = c .before .before .before .args in record { fits = omega (arith, length-entry (a .e .view) (a .e .seq) (a .e .sender) (payloadMeaning (a .e .payload))) }
 
 put-label-requires : tie.Need-put-label-requires
-put-label-requires c κs = let a = c .before .before .before .before .before .before .before .args in record { fits = omega (arith, length-entry (a .e .view) (a .e .seq) (a .e .sender) (a .e .value)) }
+put-label-requires c κs = let a = c .before .before .before .before .before .before .before .args in record { fits = omega (arith, length-entry (a .e .view) (a .e .seq) (a .e .sender) (payloadMeaning (a .e .payload))) }
 
 put-last-requires : tie.Need-put-last-requires
-put-last-requires c κs = let a = c .before .before .before .before .before .before .before .before .before .before .before .args in record { fits = omega (arith, length-entry (a .e .view) (a .e .seq) (a .e .sender) (a .e .value)) }
+put-last-requires c κs = let a = c .before .before .before .before .before .before .before .before .before .before .before .args in record { fits = omega (arith, length-entry (a .e .view) (a .e .seq) (a .e .sender) (payloadMeaning (a .e .payload))) }
 
 same-length : tie.Need-same-length
 same-length c = search needs

@@ -13,11 +13,11 @@ slice-aggregate-put-field c = search needs
 
 put-field-requires : tie.Need-put-field-requires
 unfolding from-word
-put-field-requires c κs = let a = c .before .before .before .args in record { fits = omega (arith, length-fields from-word (decimal (a .s .sender) ∷ decimal (a .s .value) ∷ [])) }
+put-field-requires c κs = let a = c .before .before .before .args in record { fits = omega (arith, length-fields from-word (decimal (a .s .sender) ∷ decimal (a .s .payload .value) ∷ [])) }
 
 put-last-two-requires : tie.Need-put-last-two-requires
 unfolding from-word
-put-last-two-requires c κs = let a = c .before .before .before .before .before .before .before .args in record { fits = omega (arith, length-fields from-word (decimal (a .s .sender) ∷ decimal (a .s .value) ∷ [])) }
+put-last-two-requires c κs = let a = c .before .before .before .before .before .before .before .args in record { fits = omega (arith, length-fields from-word (decimal (a .s .sender) ∷ decimal (a .s .payload .value) ∷ [])) }
 
 same-length : tie.Need-same-length
 same-length c = search needs
