@@ -8,7 +8,6 @@ use Rattle.base.specs.Update.{upd, upd₂}
 use Rattle.model.specs.Hall.{Message, Message.entry, Queued, Service}
 use Rattle.model.specs.Service.{vsOrder}
 
-
 -- placing the head m of r's pending list of a
 module _ (s : Service) (r a : ℕ) (m : Message) (others : List Message) (head : s .pending r a ≡ m ∷ others) where
   pub order-queue : vsOrder r a s .queue ≡ upd (s .queue) a (s .queue a ++ (record { source = r; message = m } ∷ []))
