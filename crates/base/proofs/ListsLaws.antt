@@ -13,6 +13,8 @@ use Rattle.base.proofs.Bools.{by-cases, or-cases, and-both, or-left, or
 use native.Mathlib.Omega.{arith}
 use mathlib.Core.Logic.{⊎-elim, _↔_, _⊎_, inl, inr}
 
+-- ## What a list has
+
 pub has-here : (y : ℕ) (ys : List ℕ) (x : ℕ) → eqb x y ≡ true → has (y ∷ ys) x ≡ true
 unfolding has
 has-here y ys x e = ap (λ (t : Bool). elim t [ true ↦ true | false ↦ has ys x ]) e
@@ -38,13 +40,14 @@ has-cons y ys x h = go (eqb x y) refl
     go true e = inl (eqb-true x y e)
     go false e = inr (rw has-there at h)
 
-pub filter-in : (p : ℕ → Bool) (x : ℕ) (xs : List ℕ) → p x ≡ true → filter p (x ∷ xs) ≡ x ∷ filter p xs
-unfolding filter
-filter-in p x xs e = ap (λ (t : Bool). elim t [ true ↦ x ∷ filter p xs | false ↦ filter p xs ]) e
+pub has-none : (x : ℕ) → has [] x ≡ true → ⊥
+unfolding has
+has-none x t = true≢false (sym t)
 
-pub filter-out : (p : ℕ → Bool) (x : ℕ) (xs : List ℕ) → p x ≡ false → filter p (x ∷ xs) ≡ filter p xs
-unfolding filter
-filter-out p x xs e = ap (λ (t : Bool). elim t [ true ↦ x ∷ filter p xs | false ↦ filter p xs ]) e
+-- a list without elements is empty
+pub none-has : (xs : List ℕ) → ((x : ℕ) → has xs x ≡ true → ⊥) → xs ≡ []
+none-has [] f = refl
+none-has (y ∷ ys) f = absurd (f y (has-head y ys))
 
 pub has-append : (xs ys : List ℕ) (x : ℕ) → has (xs ++ ys) x ≡ (has xs x || has ys x)
 unfolding has
@@ -54,6 +57,34 @@ has-append (z ∷ zs) ys x = go (eqb x z) refl (has-append zs ys x)
     go : (t : Bool) → eqb x z ≡ t → has (zs ++ ys) x ≡ (has zs x || has ys x) → has (z ∷ (zs ++ ys)) x ≡ (has (z ∷ zs) x || has ys x)
     go true e ih = simp has-here
     go false e ih = simp has-there ih
+
+-- in one of two lists, in both together
+pub has-left : (xs ys : List ℕ) (x : ℕ) → has xs x ≡ true → has (xs ++ ys) x ≡ true
+has-left xs ys x t = has-append xs ys x ∙ or-left (has xs x) (has ys x) t
+
+pub has-right : (xs ys : List ℕ) (x : ℕ) → has ys x ≡ true → has (xs ++ ys) x ≡ true
+has-right xs ys x t = has-append xs ys x ∙ or-right (has xs x) (has ys x) t
+
+pub has-either : (xs ys : List ℕ) (x : ℕ) → has (xs ++ ys) x ≡ true → (has xs x ≡ true) ⊎ (has ys x ≡ true)
+has-either xs ys x t = or-cases (has xs x) (has ys x) (sym (has-append xs ys x) ∙ t)
+
+-- the element at place i, counted from 0, is there
+pub key-has : (ks : List ℕ) (i : ℕ) → i < length ks → has ks (getD ks i 0) ≡ true
+unfolding has
+key-has [] i h = absurd (not-suc-le-zero h)
+key-has (k ∷ ks) zero h = rw (eq-eqb k k refl, has) refl
+key-has (k ∷ ks) (suc i) h =
+    by-cases (eqb (getD ks i 0) k) (λ e. rw (e, has) refl) (λ e. rw (e, has) (key-has ks i (le-of-suc-le-suc h)))
+
+-- ## Elements that pass a test
+
+pub filter-in : (p : ℕ → Bool) (x : ℕ) (xs : List ℕ) → p x ≡ true → filter p (x ∷ xs) ≡ x ∷ filter p xs
+unfolding filter
+filter-in p x xs e = ap (λ (t : Bool). elim t [ true ↦ x ∷ filter p xs | false ↦ filter p xs ]) e
+
+pub filter-out : (p : ℕ → Bool) (x : ℕ) (xs : List ℕ) → p x ≡ false → filter p (x ∷ xs) ≡ filter p xs
+unfolding filter
+filter-out p x xs e = ap (λ (t : Bool). elim t [ true ↦ x ∷ filter p xs | false ↦ filter p xs ]) e
 
 pub has-filter : (p : ℕ → Bool) (xs : List ℕ) (x : ℕ) → has (filter p xs) x ≡ (has xs x && p x)
 unfolding has filter
@@ -79,6 +110,41 @@ filter-append p (x ∷ xs) ys = go (p x) refl (filter-append p xs ys)
     go : (t : Bool) → p x ≡ t → filter p (xs ++ ys) ≡ filter p xs ++ filter p ys → filter p (x ∷ (xs ++ ys)) ≡ filter p (x ∷ xs) ++ filter p ys
     go true e ih = simp (filter-in, ih)
     go false e ih = simp (filter-out, ih)
+
+-- ## All elements, the greatest
+
+-- what all elements have, each has
+pub all-has : (p : ℕ → Bool) (xs : List ℕ) (x : ℕ) → all p xs ≡ true → has xs x ≡ true → p x ≡ true
+unfolding all has
+all-has p [] x t m = absurd (true≢false (sym m))
+all-has p (y ∷ ys) x t m =
+    let both : (p y ≡ true) × (all p ys ≡ true) = and-both (p y) (all p ys) t in
+    ⊎-elim (λ e. ap p e ∙ both .0) (all-has p ys x (both .1)) (has-cons y ys x m)
+
+-- what each element has, all have
+pub has-all : (p : ℕ → Bool) (xs : List ℕ) → ((x : ℕ) → has xs x ≡ true → p x ≡ true) → all p xs ≡ true
+unfolding all
+has-all p [] f = refl
+has-all p (y ∷ ys) f = and-true (p y) (all p ys) (f y (has-head y ys)) (has-all p ys (λ x t. f x (has-right (y ∷ []) ys x t)))
+
+-- each value is at most the greatest
+pub greatest-above : (f : ℕ → ℕ) (xs : List ℕ) (x : ℕ) → has xs x ≡ true → f x ≤ greatest f xs
+unfolding greatest has
+greatest-above f [] x t = absurd (true≢false (sym t))
+greatest-above f (y ∷ ys) x t =
+    ⊎-elim (λ e. subst (λ k. f k ≤ max (f y) (greatest f ys)) (sym e) (omega arith))
+    (λ t. let le = greatest-above f ys x t in omega arith) (has-cons y ys x t)
+
+-- and the greatest is at most what all are
+pub greatest-least : (f : ℕ → ℕ) (xs : List ℕ) (b : ℕ) → ((x : ℕ) → has xs x ≡ true → f x ≤ b) → greatest f xs ≤ b
+unfolding greatest
+greatest-least f [] b all-below = omega arith
+greatest-least f (y ∷ ys) b all-below =
+    let here = all-below y (has-head y ys) in
+    let there = greatest-least f ys b (λ x t. all-below x (has-later y ys x t)) in
+    omega arith
+
+-- ## Rising lists
 
 pub rising-cons : (a x : ℕ) (xs : List ℕ) → (rising a (x ∷ xs) ≡ true) ↔ ((a < x) × (rising x xs ≡ true))
 unfolding rising
@@ -120,6 +186,10 @@ rising-append a m (x ∷ xs) ys le top r s =
     rising-cons a x (xs ++ ys) .1
     (both .0, rising-append x m xs ys (top x (has-head x xs)) (λ y h. top y (has-later x xs y h)) (both .1) s)
 
+pub bit-small : (t : Bool) → bit t ≤ 1
+bit-small true = omega arith
+bit-small false = omega arith
+
 -- a rising list has each number once, or not at all
 pub rising-once : (a : ℕ) (xs : List ℕ) → rising a xs ≡ true → (x : ℕ) → count xs x ≡ bit (has xs x)
 unfolding count has
@@ -134,55 +204,7 @@ rising-once a (y ∷ ys) r x = go (eqb x y) refl (has ys x) refl (rising-once y 
     go true e false f ih = rw (has-here, ih, f) (omega (arith, ap bit e))
     go false e u f ih = rw (has-there, ih) (omega (arith, ap bit e))
 
--- what all elements have, each has
-pub all-has : (p : ℕ → Bool) (xs : List ℕ) (x : ℕ) → all p xs ≡ true → has xs x ≡ true → p x ≡ true
-unfolding all has
-all-has p [] x t m = absurd (true≢false (sym m))
-all-has p (y ∷ ys) x t m =
-    let both : (p y ≡ true) × (all p ys ≡ true) = and-both (p y) (all p ys) t in
-    ⊎-elim (λ e. ap p e ∙ both .0) (all-has p ys x (both .1)) (has-cons y ys x m)
-
-pub has-none : (x : ℕ) → has [] x ≡ true → ⊥
-unfolding has
-has-none x t = true≢false (sym t)
-
--- a list without elements is empty
-pub none-has : (xs : List ℕ) → ((x : ℕ) → has xs x ≡ true → ⊥) → xs ≡ []
-none-has [] f = refl
-none-has (y ∷ ys) f = absurd (f y (has-head y ys))
-
--- in one of two lists, in both together
-pub has-left : (xs ys : List ℕ) (x : ℕ) → has xs x ≡ true → has (xs ++ ys) x ≡ true
-has-left xs ys x t = has-append xs ys x ∙ or-left (has xs x) (has ys x) t
-
-pub has-right : (xs ys : List ℕ) (x : ℕ) → has ys x ≡ true → has (xs ++ ys) x ≡ true
-has-right xs ys x t = has-append xs ys x ∙ or-right (has xs x) (has ys x) t
-
-pub has-either : (xs ys : List ℕ) (x : ℕ) → has (xs ++ ys) x ≡ true → (has xs x ≡ true) ⊎ (has ys x ≡ true)
-has-either xs ys x t = or-cases (has xs x) (has ys x) (sym (has-append xs ys x) ∙ t)
-
--- what each element has, all have
-pub has-all : (p : ℕ → Bool) (xs : List ℕ) → ((x : ℕ) → has xs x ≡ true → p x ≡ true) → all p xs ≡ true
-unfolding all
-has-all p [] f = refl
-has-all p (y ∷ ys) f = and-true (p y) (all p ys) (f y (has-head y ys)) (has-all p ys (λ x t. f x (has-right (y ∷ []) ys x t)))
-
--- each value is at most the greatest
-pub greatest-above : (f : ℕ → ℕ) (xs : List ℕ) (x : ℕ) → has xs x ≡ true → f x ≤ greatest f xs
-unfolding greatest has
-greatest-above f [] x t = absurd (true≢false (sym t))
-greatest-above f (y ∷ ys) x t =
-    ⊎-elim (λ e. subst (λ k. f k ≤ max (f y) (greatest f ys)) (sym e) (omega arith))
-    (λ t. let le = greatest-above f ys x t in omega arith) (has-cons y ys x t)
-
--- and the greatest is at most what all are
-pub greatest-least : (f : ℕ → ℕ) (xs : List ℕ) (b : ℕ) → ((x : ℕ) → has xs x ≡ true → f x ≤ b) → greatest f xs ≤ b
-unfolding greatest
-greatest-least f [] b all-below = omega arith
-greatest-least f (y ∷ ys) b all-below =
-    let here = all-below y (has-head y ys) in
-    let there = greatest-least f ys b (λ x t. all-below x (has-later y ys x t)) in
-    omega arith
+-- ## Parts of a list
 
 pub append-none : {A : Type 0} (xs ys : List A) → xs ++ ys ≡ [] → (xs ≡ []) × (ys ≡ [])
 append-none [] ys none = (refl, none)
@@ -193,15 +215,3 @@ pub head-rest : {A : Type 0} (xs : List A) (d : A) → isEmpty xs ≡ false → 
 unfolding isEmpty place rest
 head-rest [] d e = absurd (true≢false e)
 head-rest (x ∷ xs) d e = refl
-
--- the key at place i is there
-pub key-has : (ks : List ℕ) (i : ℕ) → i < length ks → has ks (getD ks i 0) ≡ true
-unfolding has
-key-has [] i h = absurd (not-suc-le-zero h)
-key-has (k ∷ ks) zero h = rw (eq-eqb k k refl, has) refl
-key-has (k ∷ ks) (suc i) h =
-    by-cases (eqb (getD ks i 0) k) (λ e. rw (e, has) refl) (λ e. rw (e, has) (key-has ks i (le-of-suc-le-suc h)))
-
-pub bit-small : (t : Bool) → bit t ≤ 1
-bit-small true = omega arith
-bit-small false = omega arith

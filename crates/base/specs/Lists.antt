@@ -1,11 +1,11 @@
--- Lists: which numbers they have, which of them pass a test, and what each element has.
+-- Lists: what they have, which elements pass a test, the element at a place, rising lists, and one list that begins another.
 -- Assumes nothing.
 use Prim.Native.Nat.{ℕ, _+_, _-_, max}
+use mathlib.Core.Path.{_≡_}
 use mathlib.Core.Bool.{Bool, true, false, _&&_, _||_}
 use mathlib.Core.List.{List, [], _∷_, _++_}
 use lib.Dec.{eqb, ltb}
 use lib.ListN.{getD}
-use mathlib.Core.Path.{_≡_}
 
 -- is x listed in xs?
 unfoldable pub has : List ℕ → ℕ → Bool

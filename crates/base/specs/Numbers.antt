@@ -14,7 +14,7 @@ unfoldable pub upTo : ℕ → List ℕ
 upTo zero = []
 upTo (suc n) = upTo n ++ (suc n ∷ [])
 
--- keys s, s + 1, .., n of them
+-- the numbers s, s + 1 and on, n of them; `numbers 1 n` is `upTo n`, the other way round (NumbersLaws)
 unfoldable pub numbers : ℕ → ℕ → List ℕ
 numbers s zero = []
 numbers s (suc n) = s ∷ numbers (suc s) n

@@ -1,11 +1,11 @@
--- The argument for demand 3 in a folder of its own; computed facts beside it.
-pub mod Agreement
-pub mod Kept
-pub mod EndCounts
+-- What an accepted call does (Accepting), laws of the definitions, the argument for demand 3 (Agreement), computed facts.
 pub mod KindLaws
-pub mod Computing
-pub mod Cards
-pub mod Accepting
-pub mod Ordering
 pub mod OpeningLaws
 pub mod ServiceLaws
+pub mod Ordering
+pub mod Accepting
+pub mod Kept
+pub mod Agreement
+pub mod Computing
+pub mod Cards
+pub mod EndCounts

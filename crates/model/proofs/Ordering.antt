@@ -1,3 +1,4 @@
-pub mod FullOrder
+-- Laws of the definitions of labels and orders.
 pub mod Labels
 pub mod Waiting
+pub mod FullOrder

@@ -1,4 +1,4 @@
--- Laws of the sets of `Sets`: what a list has, the members of a mask, and the mask of members.
+-- Laws of the sets of `Sets`: the members of a mask, and the mask of members.
 -- Assumes nothing.
 use Prim.Native.Nat.{ℕ, zero, suc, _+_, _-_, _*_, _%_, _^_, _≤_, _<_, _/_}
 use native.Mathlib.Omega.{arith}
@@ -17,11 +17,7 @@ use native.Mathlib.Nat.{pow-succ', mod-eq-of-lt, mod-one}
 use mathlib.Core.Logic.{_⊎_, ⊎-elim}
 use lib.Arith.{mod-mul}
 
--- ---- the head of a list
-
--- ---- what a list has
-
--- ---- the recorders 1 to n, and the members of a mask
+-- ---- the members of a mask
 
 pub has-members : (n b k : ℕ) → 1 ≤ k → k ≤ n → has (members n b) k ≡ inMask b k
 unfolding members
