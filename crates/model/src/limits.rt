@@ -1,4 +1,5 @@
-// How much of each thing a hall holds, and how far numbers run (specs/Hall, under the same names).
+// How much of each thing a hall or a run file holds, and how far numbers run (specs/Hall and specs/RunFile, under the
+// same names).
 
 // "Entries, at most 64 ever submitted"; a sequence number is 1 to 64; buffer and order hold at most 64 labels each
 pub const MAX_ENTRIES: usize = 64;
@@ -20,3 +21,10 @@ pub const MAX_PENDING: usize = 65;
 pub const MAX_QUEUE: usize = 72;
 
 pub const MAX_RECORDERS: usize = 8;
+
+// "A file has at most 65,536 bytes, so C is at most 4,094": two of its blocks are the opening and the trailer (specs/RunFile)
+pub const BLOCK: usize = 16;
+
+pub const MAX_FILE: usize = 65536;
+
+pub const MAX_ACTIONS: usize = MAX_FILE / BLOCK - 2;
