@@ -7,8 +7,8 @@ use mathlib.Core.Bool.{Bool, true, false}
 use mathlib.Core.Logic.{_⊎_, ⊎-elim}
 use lib.Dec.{eqb}
 use borrow.Author.Tests.{eqb-true, eqb-false, eq-eqb, ne-eqb}
-use Rattle.base.specs.Chains.{refuse, _⨾_}
 use native.Mathlib.Nat.{suc-ne-zero}
+use Rattle.base.specs.Chains.{refuse, _⨾_}
 
 -- a condition that refuses with a number above 0 and did not refuse is false
 pub not-refused : (t : Bool) (k : ℕ) → refuse t (suc k) ≡ 0 → t ≡ false

@@ -7,9 +7,9 @@ use mathlib.Core.Logic.{⊎-elim}
 use mathlib.Core.Bool.{Bool, true, false, not, _&&_}
 use mathlib.Core.List.{List, [], _∷_, _++_, map}
 use lib.ListN.{length}
+use borrow.Author.Tests.{not-true}
 use Rattle.base.specs.Lists.{filter, has, rising, countOf}
 use Rattle.base.proofs.ListsLaws.{has-head, has-later, filter-in, filter-out, filter-append, in-filter, rising-cons, rising-above, rising-filter}
-use borrow.Author.Tests.{not-true}
 use Rattle.base.proofs.UpdateLaws.{same?}
 
 pub map-same : {A : Type 0} (f k : ℕ → A) (xs : List ℕ) → ((x : ℕ) → has xs x ≡ true → f x ≡ k x) → map f xs ≡ map k xs

@@ -8,10 +8,10 @@ use mathlib.Core.List.{List, [], _∷_, _++_}
 use lib.Dec.{eqb, ltb}
 use lib.ListN.{length, getD}
 use borrow.Author.Tests.{eqb-true, eq-eqb, ltb-true, lt-ltb}
-use Rattle.base.specs.Lists.{has, filter, rising, bit, count, all, place, rest, greatest, isEmpty}
-use Rattle.base.proofs.Bools.{by-cases, or-cases, and-both, or-left, or-right, and-true}
 use native.Mathlib.Omega.{arith}
 use mathlib.Core.Logic.{⊎-elim, _↔_, _⊎_, inl, inr}
+use Rattle.base.specs.Lists.{has, filter, rising, bit, count, all, place, rest, greatest, isEmpty}
+use Rattle.base.proofs.Bools.{by-cases, or-cases, and-both, or-left, or-right, and-true}
 
 -- ## What a list has
 

@@ -11,9 +11,6 @@ use lib.Dec.{eqb, ltb}
 use lib.ListN.{length, drop}
 use lib.Seq.{sets, sets-eq}
 use borrow.Author.Tests.{eqb-true, eqb-false, eq-eqb, ne-eqb, ltb-true, ltb-false}
-use Rattle.codec.specs.Bytes.{part, zeros}
-use Rattle.codec.specs.Number.{digits, value}
-use Rattle.codec.proofs.NumberLaws.{value-digits}
 use Rattle.base.proofs.Bools.{by-cases, and-true}
 use Rattle.model.specs.Hall.{Entries, Hall, Payload}
 use Rattle.model.specs.Answers.{Answer, from, Plain, plain, accepted}
@@ -23,10 +20,13 @@ use Rattle.model.specs.Call.{Words, WordsIn, hl3, step}
 use Rattle.model.specs.Run.{accepts}
 use Rattle.model.specs.Agreed.{Agreed}
 use Rattle.model.proofs.Accepting.Accepted.{accepts-deliver}
+use Rattle.codec.specs.Bytes.{part, zeros}
+use Rattle.codec.specs.Number.{digits, value}
+use Rattle.codec.proofs.NumberLaws.{value-digits}
 use Rattle.store.specs.Valid.{PayloadIn, EntriesIn, ValidHall}
+use Rattle.store.specs.StoredForm.{stored}
 use Rattle.store.proofs.KeepFacts.{inside?}
 use Rattle.store.proofs.KeepValid.{payloads-in}
-use Rattle.store.specs.StoredForm.{stored}
 use Rattle.calls.specs.Calls.{stepOn, openOn, runOn}
 use Rattle.calls.specs.Steps.{Steps}
 use Rattle.calls.specs.Lent.{answerLength, wordsBytes, answerBytes, withAnswer, Lent, stepLent, Leaves}

@@ -6,22 +6,22 @@ use mathlib.Core.Bool.{true, false}
 use mathlib.Core.List.{List, [], _∷_}
 use lib.ListN.{length-take}
 use Rattle.base.specs.Lists.{Each}
+use Rattle.base.proofs.Bools.{by-cases}
+use Rattle.model.specs.Kinds.{kinds, kindOf, submit}
+use Rattle.model.specs.Answers.{refused}
+use Rattle.model.specs.Call.{wordsOf}
 use Rattle.codec.specs.Bytes.{zeros}
 use Rattle.codec.specs.Form.{mapped, renamed, guarded}
 use Rattle.codec.specs.Number.{value, number}
 use Rattle.codec.specs.Pair.{given}
 use Rattle.codec.specs.Slice.{valueOf}
-use Rattle.base.proofs.Bools.{by-cases}
-use Rattle.model.specs.Kinds.{kinds, kindOf, submit}
-use Rattle.model.specs.Answers.{refused}
-use Rattle.model.specs.Call.{wordsOf}
 use Rattle.store.specs.Layout.{storedLength}
 use Rattle.store.specs.HallForm.{fields, hallFields, hallForm}
 use Rattle.store.specs.StoredForm.{hallOf, isStored}
 use Rattle.store.proofs.StoredFormLaws.{hallOf-valid, short-broken}
 use Rattle.calls.specs.ByKind.{give}
-use Rattle.calls.proofs.ByKindLaws.{actOn, step-by-kind}
 use Rattle.calls.specs.ByteCards.{CardHolds, kindTwelve, kindOne, cutShort, brokenCards}
+use Rattle.calls.proofs.ByKindLaws.{actOn, step-by-kind}
 
 -- every slice that is no hall's stored form
 pub broken-refused : (b : List ℕ) → isStored b ≡ false → CardHolds (kindTwelve b) × CardHolds (kindOne b)

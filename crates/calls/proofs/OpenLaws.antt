@@ -6,8 +6,8 @@ use mathlib.Core.List.{List}
 use lib.Dec.{eqb}
 use borrow.Author.Tests.{eqb-true, eqb-false, eq-eqb, ne-eqb}
 use Rattle.base.proofs.Bools.{by-cases}
-use Rattle.model.specs.Opening.{Opening, openRefusal, opened}
 use Rattle.base.proofs.ChainsLaws.{chain-none}
+use Rattle.model.specs.Opening.{Opening, openRefusal, opened}
 use Rattle.calls.specs.Calls.{withHall, OpenOutcome, openNumber, openOn}
 
 module _ (b : List ℕ) (o : Opening) where

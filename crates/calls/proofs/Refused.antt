@@ -6,8 +6,8 @@ use mathlib.Core.List.{List}
 use lib.Dec.{eqb, ltb}
 use lib.ListN.{length}
 use borrow.Author.Tests.{ne-eqb, eqb-true, eqb-false, lt-ltb, le-ltb}
-use Rattle.base.proofs.Bools.{by-cases}
 use Rattle.base.specs.Chains.{refuse, _⨾_}
+use Rattle.base.proofs.Bools.{by-cases}
 use Rattle.model.specs.Hall.{Hall}
 use Rattle.model.specs.Kinds.{Kind, submit, label, sendEntry, sendSummary, form, enter, order, receive, notice, confirm, deliver, KindWord, kind, noKind, kindOf, inputRefusal}
 use Rattle.model.specs.Answers.{Content, Answer, message, refused, Plain, plain}
@@ -20,10 +20,10 @@ use Rattle.model.specs.Call.{Words, hl3, Stored, hall}
 use Rattle.store.specs.StoredForm.{hallOf, isStored}
 use Rattle.calls.specs.Calls.{withHall, OpenOutcome, openOn, Outcome, stepOn, pageOn}
 use Rattle.calls.specs.ByKind.{kindOn, give}
-use Rattle.calls.proofs.ByKindLaws.{actOn, step-by-kind}
-use Rattle.calls.proofs.OpenLaws.{open-refused, open-taken}
 use Rattle.calls.specs.Kept.{Keeps, RefusedKeeps}
 use Rattle.calls.specs.Lent.{answerLength, withAnswer, Lent, lentNumber, lentCall, stepLent, pageLent, Leaves}
+use Rattle.calls.proofs.ByKindLaws.{actOn, step-by-kind}
+use Rattle.calls.proofs.OpenLaws.{open-refused, open-taken}
 
 -- what is performed is accepted
 message-number : (q : ℕ) (x : Content) → plain (message q x) .number ≡ 0

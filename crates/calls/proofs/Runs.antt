@@ -8,6 +8,7 @@ use mathlib.Core.List.{List, [], _∷_, _++_, map}
 use lib.Dec.{eqb}
 use borrow.Author.Tests.{eqb-true}
 use lib.ListN.{drop}
+use Rattle.base.proofs.Bools.{and-both}
 use Rattle.model.specs.Hall.{Hall}
 use Rattle.model.specs.Answers.{accepted}
 use Rattle.model.specs.Actions.{Outcome, payloadOf}
@@ -15,7 +16,6 @@ use Rattle.model.specs.Opening.{Opening, openRefusal, opened}
 use Rattle.model.specs.Call.{Words, WordsIn, hl3, step}
 use Rattle.model.specs.Run.{run, accepts, collect, firstWaiting, atReport, itemsFrom, submitted, labelledAt, delivered, deliverAnswers, History, history}
 use Rattle.model.specs.Agreed.{Agreed}
-use Rattle.base.proofs.Bools.{and-both}
 use Rattle.model.proofs.Agreement.Theorem.{hl3-agreement}
 use Rattle.store.specs.Layout.{storedLength}
 use Rattle.store.specs.Valid.{ValidHall}

@@ -9,9 +9,8 @@ use lib.Dec.{eqb}
 use borrow.Author.Tests.{le-ltb}
 use lib.ListN.{length, length-replicate}
 use Rattle.base.specs.Lists.{Each}
-use Rattle.codec.specs.Bytes.{zeros}
-use Rattle.base.proofs.Bools.{by-cases, not-both}
 use Rattle.base.specs.Chains.{refuse, _⨾_}
+use Rattle.base.proofs.Bools.{by-cases, not-both}
 use Rattle.model.specs.Hall.{Hall}
 use Rattle.model.specs.Fields.{setConfirm, setRecorders}
 use Rattle.model.specs.Kinds.{receive, submit, kinds, kindOf, inputRefusal}
@@ -25,6 +24,7 @@ use Rattle.model.specs.Run.{run}
 use Rattle.model.proofs.Computing.{computing}
 use Rattle.model.proofs.Accepting.Performed.{numberOf, same-kind}
 use Rattle.model.proofs.Accepting.Accepted.{performed-accepted, accepted-performed, refused-same}
+use Rattle.codec.specs.Bytes.{zeros}
 use Rattle.store.specs.Layout.{storedLength}
 use Rattle.store.specs.Valid.{ValidHall}
 use Rattle.store.specs.StoredForm.{stored, hallOf, isStored}

@@ -5,14 +5,14 @@ use mathlib.Core.Path.{_≡_}
 use mathlib.Core.Bool.{Bool, true, false, _&&_}
 use mathlib.Core.List.{List, [], _∷_}
 use lib.Dec.{eqb}
-use Rattle.codec.specs.Bytes.{part}
-use Rattle.codec.specs.Number.{value}
 use Rattle.model.specs.Answers as model
 use Rattle.model.specs.Answers.{from, accepted}
 use Rattle.model.specs.Actions.{payloadOf}
 use Rattle.model.specs.Opening.{Opening}
 use Rattle.model.specs.Call.{Words}
 use Rattle.model.specs.Run.{firstWaiting, atReport, itemsFrom, History}
+use Rattle.codec.specs.Bytes.{part}
+use Rattle.codec.specs.Number.{value}
 use Rattle.store.specs.StoredForm.{hallOf}
 use Rattle.answer.specs.declared.Answer.{Answer}
 use Rattle.answer.specs.Meaning.{meaning}

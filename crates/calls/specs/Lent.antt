@@ -6,12 +6,12 @@ use mathlib.Core.List.{List, [], _∷_, _++_}
 use lib.Dec.{eqb, ltb}
 use lib.ListN.{length}
 use lib.Seq.{sets}
-use Rattle.codec.specs.Bytes.{zeros}
-use Rattle.codec.specs.Number.{digits}
 use Rattle.base.specs.Chains.{refuse, _⨾_}
 use Rattle.model.specs.Answers.{Plain, plain}
 use Rattle.model.specs.Page.{plainPage}
 use Rattle.model.specs.Call.{Words}
+use Rattle.codec.specs.Bytes.{zeros}
+use Rattle.codec.specs.Number.{digits}
 use Rattle.calls.specs.Calls.{Outcome, stepOn, pageOn}
 
 -- an answer slice has sixteen words of four bytes

@@ -8,17 +8,17 @@ use mathlib.Core.List.{List, [], _∷_, _++_}
 use lib.ListN.{length, getD, set, take, drop, length-take, length-drop}
 use lib.Seq.{take-suc-set, sets, take-take}
 use borrow.Author.Tests.{leb-true, le-leb, lt-leb}
-use Rattle.base.specs.Lists.{Each}
 use native.Mathlib.Nat.{mul-one, not-suc-le-zero, le-of-suc-le-suc}
 use lib.Dec.{leb}
+use Rattle.base.specs.Lists.{Each}
 use Rattle.codec.specs.Bytes.{zeros, part, allZero}
-use Rattle.codec.proofs.BytesLaws.{part-cons, part-rest, drop-part, sets-append}
 use Rattle.codec.specs.Number.{number, byte, between, digits, value}
-use Rattle.codec.proofs.NumberLaws.{digits-byte}
 use Rattle.codec.specs.Cells.{encodeAll, decodeAll, validAll}
 use Rattle.codec.specs.Bounded.{Within, bounded}
-use Rattle.codec.proofs.BoundedLaws.{bounded-encode, bounded-decode, bounded-valid}
 use Rattle.codec.specs.ByteList.{listAt, listBytes, allIn}
+use Rattle.codec.proofs.BytesLaws.{part-cons, part-rest, drop-part, sets-append}
+use Rattle.codec.proofs.NumberLaws.{digits-byte}
+use Rattle.codec.proofs.BoundedLaws.{bounded-encode, bounded-decode, bounded-valid}
 
 -- to write the count, then the bytes, then the zeros is to write the list
 pub write-list : (b : List ℕ) (o cap n : ℕ) (xs : List ℕ) → length xs ≡ n

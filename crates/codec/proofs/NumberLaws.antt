@@ -8,12 +8,12 @@ use mathlib.Core.List.{List, [], _∷_}
 use lib.Dec.{leb, eqb, lit<, lit≤}
 use lib.ListN.{length, getD}
 use borrow.Author.Tests.{le-leb, leb-true}
-use Rattle.codec.specs.Bytes.{Block, part}
-use Rattle.codec.proofs.BytesLaws.{part-cons}
-use Rattle.codec.specs.Form.{Form, mapped}
-use Rattle.codec.proofs.FormLaws.{Lawful, mapped-lawful}
-use Rattle.codec.specs.Number.{digits, value, between, number, word, byte, mark, flag}
 use Rattle.base.specs.Lists.{bit}
+use Rattle.codec.specs.Bytes.{Block, part}
+use Rattle.codec.specs.Form.{Form, mapped}
+use Rattle.codec.specs.Number.{digits, value, between, number, word, byte, mark, flag}
+use Rattle.codec.proofs.BytesLaws.{part-cons}
+use Rattle.codec.proofs.FormLaws.{Lawful, mapped-lawful}
 
 pub block-digits : (n v : ℕ) → Block n (digits n v)
 unfolding digits

@@ -3,10 +3,10 @@
 use Prim.Native.Nat.{ℕ}
 use Rattle.base.specs.Lists
 use Rattle.base.specs.Update
-use Rattle.quorum.specs.Sets
-use Rattle.quorum.specs.Votes
 use Rattle.base.specs.Chains
 use Rattle.base.specs.Numbers
+use Rattle.quorum.specs.Sets
+use Rattle.quorum.specs.Votes
 use Rattle.model.specs.Hall
 use Rattle.model.specs.Service
 use Rattle.model.specs.Ordering

@@ -9,8 +9,8 @@ use mathlib.Core.List.{List, [], _∷_}
 use lib.Dec.{eqb, leb}
 use lib.ListN.{length, getD, List·getD-eq-default}
 use borrow.Author.Tests.{ne-eqb, leb-true, leb-false}
-use Rattle.model.specs.Kinds.{Kind, KindWord, kind, noKind, kinds, lastKind, kindOf}
 use Rattle.base.proofs.Bools.{true-or-false, not-both, and-both}
+use Rattle.model.specs.Kinds.{Kind, KindWord, kind, noKind, kinds, lastKind, kindOf}
 
 -- does t hold of each place and what stands there, places counted from i?
 unfoldable pub places : (ℕ → KindWord → Bool) → ℕ → List KindWord → Bool

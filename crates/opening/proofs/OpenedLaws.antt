@@ -11,42 +11,42 @@ use lib.ListN.{length, drop, length-map, length-replicate}
 use lib.Pow.{pow-mono}
 use lib.Seq.{sets, sets-eq, length-sets}
 use Rattle.base.specs.Update.{upd}
-use Rattle.codec.specs.Bytes.{zeros}
-use Rattle.codec.proofs.BytesLaws.{sets-append}
-use Rattle.codec.specs.Form.{Form, mapped, renamed, guarded}
-use Rattle.codec.specs.Number.{digits, number, byte, flag}
-use Rattle.codec.proofs.NumberLaws.{digits-byte}
-use Rattle.codec.specs.Pair.{given}
-use Rattle.codec.specs.Cells.{cells}
-use Rattle.codec.proofs.Blank.{Blank, blank-number, blank-flag, blank-given, blank-cells, blank-bounded}
-use Rattle.codec.specs.Table.{table, flags}
 use Rattle.base.specs.Numbers.{numbers, upTo}
-use Rattle.codec.proofs.TableLaws.{all-keys}
-use Rattle.base.proofs.NumbersLaws.{length-numbers, upTo-range, rising-upTo}
-use Rattle.codec.proofs.SliceLaws.{sets-append-left}
 use Rattle.base.specs.Lists.{filter, has, rising}
-use Rattle.quorum.specs.Sets.{inMask, members, mask}
+use Rattle.base.proofs.NumbersLaws.{length-numbers, upTo-range, rising-upTo}
 use Rattle.base.proofs.ListsLaws.{has-there, has-append, has-filter, has-none}
+use Rattle.base.proofs.UpdateLaws.{upd-same, upd-ext}
+use Rattle.base.proofs.ChainsLaws.{chain-none, not-refused}
+use Rattle.quorum.specs.Sets.{inMask, members, mask}
 use Rattle.quorum.proofs.SetLaws.{has-members, members-range, members-nonempty, rising-members, mask-append}
 use Rattle.model.specs.Hall.{maxEntries, maxSequence, maxBuffer, maxOrder, maxViews, maxNumber, maxRecorders, Queued, normal, Hall}
 use Rattle.model.specs.Fields.{setService, setHigh}
 use Rattle.model.specs.Service.{createview}
 use Rattle.model.specs.Opening.{Opening, openRefusal, founderSet, noEntries, noSummaries, firstView, openService, openRecorders, openHall, opened}
-use Rattle.base.proofs.UpdateLaws.{upd-same, upd-ext}
-use Rattle.base.proofs.ChainsLaws.{chain-none, not-refused}
+use Rattle.codec.specs.Bytes.{zeros}
+use Rattle.codec.specs.Form.{Form, mapped, renamed, guarded}
+use Rattle.codec.specs.Number.{digits, number, byte, flag}
+use Rattle.codec.specs.Pair.{given}
+use Rattle.codec.specs.Cells.{cells}
+use Rattle.codec.specs.Table.{table, flags}
+use Rattle.codec.proofs.BytesLaws.{sets-append}
+use Rattle.codec.proofs.NumberLaws.{digits-byte}
+use Rattle.codec.proofs.Blank.{Blank, blank-number, blank-flag, blank-given, blank-cells, blank-bounded}
+use Rattle.codec.proofs.TableLaws.{all-keys}
+use Rattle.codec.proofs.SliceLaws.{sets-append-left}
 use Rattle.store.specs.Layout.{storedLength, recordersAt, recorderSize, numberSize, viewsAt, viewCells, viewSets}
 use Rattle.store.specs.Valid.{ViewsIn, RecorderIn, InRange}
 use Rattle.store.specs.Cells.{entryAt, RecorderCell, blankRecorder, recorderAt, blankPlace, blankEntry, placeAt, PlaceCell}
 use Rattle.store.specs.CellForms.{viewNumber, entryList, phaseForm, entryForm, recorderForm, placeForm, queueForm}
-use Rattle.store.proofs.CellFormsLaws.{recorder-lawful}
 use Rattle.store.specs.Masks.{setForm}
-use Rattle.store.proofs.MasksLaws.{members-mask}
 use Rattle.store.specs.ViewForm.{viewForm, viewList, viewsForm}
 use Rattle.store.specs.HallForm.{entriesForm, recordersForm, rowForm, networkForm, queuesForm, bodyForm, afterSize, fields, fromHall, viewsOf, hallFields, hallForm}
+use Rattle.store.specs.StoredForm.{stored}
+use Rattle.store.proofs.CellFormsLaws.{recorder-lawful}
+use Rattle.store.proofs.MasksLaws.{members-mask}
 use Rattle.store.proofs.HallFormLaws.{hallFields-lawful}
 use Rattle.store.proofs.Ranges.{recorder-ok}
 use Rattle.store.proofs.HallOk.{fields-ok}
-use Rattle.store.specs.StoredForm.{stored}
 use Rattle.store.proofs.Pieces.{recorder-piece}
 use Rattle.store.proofs.Puts.{recorderOf, placeOf, withCells, putRecorder}
 use Rattle.store.proofs.Growth.{form-bytes}
@@ -54,10 +54,10 @@ use Rattle.store.proofs.KeepFacts.{Between}
 use Rattle.store.proofs.KeepEntries.{not-empty}
 use Rattle.store.proofs.KeepRules.{valid-of}
 use Rattle.store.proofs.KeepValid.{start-facts, first-views, open-facts, opening-in}
+use Rattle.store.proofs.ViewFormLaws.{view-bytes}
 use Rattle.calls.specs.Calls.{openNumber}
 use Rattle.hall.proofs.Writes.{write-piece}
 use Rattle.opening.specs.Opened.{founderMask, hallWith, begun, startOf, Taken}
-use Rattle.store.proofs.ViewFormLaws.{view-bytes}
 
 -- ## The founders' mask
 

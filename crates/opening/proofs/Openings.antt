@@ -8,11 +8,11 @@ use lib.Dec.{eqb, leb, ltb}
 use lib.ListN.{length, drop}
 use lib.Pow.{pow-pos}
 use borrow.Author.Tests.{le-leb, lt-leb, eq-eqb, ne-eqb}
-use Rattle.quorum.specs.Sets.{inMask, members}
 use Rattle.base.specs.Lists.{has}
-use Rattle.quorum.proofs.SetLaws.{has-members}
 use Rattle.base.specs.Numbers.{within}
 use Rattle.base.specs.Chains.{refuse, _⨾_}
+use Rattle.quorum.specs.Sets.{inMask, members}
+use Rattle.quorum.proofs.SetLaws.{has-members}
 use Rattle.model.specs.Hall.{Hall, maxRecorders}
 use Rattle.model.specs.Opening.{openingOf, wrongOpening, openRefusal, opened}
 use Rattle.store.specs.Layout.{storedLength}

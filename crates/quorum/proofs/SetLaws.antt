@@ -8,14 +8,14 @@ use mathlib.Core.List.{List, [], _∷_, _++_}
 use lib.Dec.{lit<, eqb}
 use lib.Pow.{shl-exact, pow-pos}
 use borrow.Author.Tests.{eqb-true, eqb-false}
-use Rattle.base.specs.Lists.{bit, filter, has, rising, count}
-use Rattle.base.specs.Numbers.{upTo}
-use Rattle.quorum.specs.Sets.{inMask, members, mask}
-use Rattle.base.proofs.ListsLaws.{filter-in, filter-out, filter-append, in-filter, rising-filter, has-head, has-filter, rising-once}
-use Rattle.base.proofs.NumbersLaws.{has-upTo, upTo-range, rising-upTo}
 use native.Mathlib.Nat.{pow-succ', mod-eq-of-lt, mod-one}
 use mathlib.Core.Logic.{_⊎_, ⊎-elim}
 use lib.Arith.{mod-mul}
+use Rattle.base.specs.Lists.{bit, filter, has, rising, count}
+use Rattle.base.specs.Numbers.{upTo}
+use Rattle.base.proofs.ListsLaws.{filter-in, filter-out, filter-append, in-filter, rising-filter, has-head, has-filter, rising-once}
+use Rattle.base.proofs.NumbersLaws.{has-upTo, upTo-range, rising-upTo}
+use Rattle.quorum.specs.Sets.{inMask, members, mask}
 
 -- ---- the members of a mask
 

@@ -10,10 +10,10 @@ use borrow.Author.Tests.{leb-true, eqb-true}
 use lib.Dec.{eqb, ltb}
 use Rattle.base.specs.Numbers.{upTo}
 use Rattle.base.specs.Lists.{filter, has}
-use Rattle.quorum.specs.Sets.{inMask, members}
-use Rattle.quorum.proofs.SetLaws.{has-members}
 use Rattle.base.proofs.NumbersLaws.{all-upTo}
+use Rattle.quorum.specs.Sets.{inMask, members}
 use Rattle.quorum.specs.Votes.{votes, total, quorum, share, builtIn, rowOf, builtInRow}
+use Rattle.quorum.proofs.SetLaws.{has-members}
 
 -- ---- one recorder more
 

@@ -3,8 +3,8 @@
 use Prim.Native.Nat.{ℕ, _+_, _-_, _/_, _%_, _^_}
 use mathlib.Core.Bool.{Bool}
 use mathlib.Core.List.{List, [], _∷_}
-use Rattle.base.specs.Lists.{filter}
 use lib.Dec.{eqb}
+use Rattle.base.specs.Lists.{filter}
 use Rattle.base.specs.Numbers.{upTo}
 
 -- is recorder k in the set with mask b? bit k-1 says

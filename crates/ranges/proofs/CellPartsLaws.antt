@@ -8,24 +8,24 @@ use lib.Dec.{eqb, leb}
 use lib.ListN.{length, getD, drop}
 use lib.Seq.{take-take}
 use borrow.Author.Tests.{eq-eqb, ne-eqb, lt-leb}
+use Rattle.model.specs.Hall.{maxSequence, maxEntries, maxBuffer, maxOrder, maxNumber, maxPending, maxQueue, maxRecorders, Payload}
 use Rattle.codec.specs.Bytes.{Block, part, allZero}
-use Rattle.codec.proofs.BytesLaws.{drop-part}
 use Rattle.codec.specs.Form.{Form, mapped, renamed, guarded}
 use Rattle.codec.specs.Number.{value, number, byte, mark, between}
-use Rattle.codec.proofs.NumberLaws.{value-byte}
 use Rattle.codec.specs.Pair.{given}
 use Rattle.codec.specs.Cells.{validAll, cells}
 use Rattle.codec.specs.Bounded.{bounded, optional}
 use Rattle.codec.specs.Table.{flags}
-use Rattle.model.specs.Hall.{maxSequence, maxEntries, maxBuffer, maxOrder, maxNumber, maxPending, maxQueue, maxRecorders, Payload}
+use Rattle.codec.proofs.BytesLaws.{drop-part}
+use Rattle.codec.proofs.NumberLaws.{value-byte}
 use Rattle.store.specs.Layout.{entrySize, recorderSize, placeSize, summarySize, viewSize, numberSize, wordSize, viewSetAt, payloadSize, entryPayloadAt, listSize, summaryOrderAt, sentSize, queuedMessageAt, queuedSize}
 use Rattle.store.specs.Cells.{EntryCell}
 use Rattle.store.specs.CellForms.{viewNumber, entryList, labelWhole, payloadForm, entryForm, summaryForm, sentForm, phaseForm, recorderForm, messageForm, placeForm, queuedForm}
 use Rattle.store.specs.Masks.{setForm}
 use Rattle.store.specs.ViewForm.{viewForm}
+use Rattle.ranges.specs.CellParts.{wholeLabel, recorderRest}
 use Rattle.ranges.proofs.Parts.{pair-part, given-value, word-part}
 use Rattle.ranges.proofs.Loops.{cells-same, bounded-part}
-use Rattle.ranges.specs.CellParts.{wholeLabel, recorderRest}
 
 pub no-label : (g k : ℕ) → g ≡ 0 → wholeLabel g k ≡ eqb k 0
 unfolding wholeLabel

@@ -11,16 +11,16 @@ use lib.Dec.{leb, ltb, leb·zero}
 use lib.ListN.{length, getD, take, drop, length-take, length-drop}
 use lib.Seq.{take-take}
 use borrow.Author.Tests.{le-leb}
+use Rattle.base.proofs.NumbersLaws.{length-numbers}
 use Rattle.codec.specs.Bytes.{Block, part, allZero}
-use Rattle.codec.proofs.BytesLaws.{drop-part, block-part}
 use Rattle.codec.specs.Form.{Form, mapped}
 use Rattle.codec.specs.Number.{value, between, number, byte, mark, word, flag}
-use Rattle.codec.proofs.NumberLaws.{value-lt, between-true, number-valid}
 use Rattle.codec.specs.Pair.{given}
 use Rattle.codec.specs.Cells.{validAll, cells}
 use Rattle.codec.specs.ByteList.{allIn}
 use Rattle.codec.specs.Table.{table, flags}
-use Rattle.base.proofs.NumbersLaws.{length-numbers}
+use Rattle.codec.proofs.BytesLaws.{drop-part, block-part}
+use Rattle.codec.proofs.NumberLaws.{value-lt, between-true, number-valid}
 use Rattle.store.specs.Layout.{numberSize}
 
 -- a pair at offset o: the first part, and then the second

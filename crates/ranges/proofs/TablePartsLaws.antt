@@ -8,25 +8,25 @@ use lib.Dec.{leb, ltb, leb·zero}
 use lib.ListN.{length, getD, take, drop}
 use lib.Seq.{drop-drop}
 use borrow.Author.Tests.{leb-true, le-leb, lt-leb, lt-ltb, le-ltb}
+use Rattle.base.specs.Numbers.{numbers}
+use Rattle.base.specs.Lists.{rising}
+use Rattle.base.proofs.NumbersLaws.{length-numbers}
+use Rattle.model.specs.Hall.{maxEntries, maxViews, maxRecorders}
 use Rattle.codec.specs.Bytes.{part}
 use Rattle.codec.specs.Form.{Form, mapped, renamed, guarded}
 use Rattle.codec.specs.Number.{value, number, byte}
-use Rattle.codec.proofs.NumberLaws.{number-decode}
 use Rattle.codec.specs.Cells.{decodeAll, cells}
 use Rattle.codec.specs.Bounded.{bounded}
 use Rattle.codec.specs.Table.{table}
-use Rattle.base.specs.Numbers.{numbers}
-use Rattle.base.proofs.NumbersLaws.{length-numbers}
-use Rattle.base.specs.Lists.{rising}
-use Rattle.model.specs.Hall.{maxEntries, maxViews, maxRecorders}
+use Rattle.codec.proofs.NumberLaws.{number-decode}
 use Rattle.store.specs.Layout.{entryCells, networkAt, recordersAt, queuesAt, storedLength, numberSize, viewSize, entrySize, viewsAt, viewCells, entriesAt, viewsSize, entriesSize, recordersSize, networkSize, queuesSize, bodySize, restSize}
 use Rattle.store.specs.Cells.{blankEntry}
 use Rattle.store.specs.CellForms.{entryForm, recorderForm, placeForm, queueForm}
 use Rattle.store.specs.ViewForm.{Views, viewForm, numbersOf, numbersRise, viewList, viewsForm}
 use Rattle.store.specs.HallForm.{entriesForm, recordersForm, rowForm, networkForm, queuesForm, bodyForm, afterSize, fields, hallFields}
+use Rattle.ranges.specs.TableParts.{viewNumbers, tablesIn}
 use Rattle.ranges.proofs.Parts.{given-part, pair-part, given-value, byte-part}
 use Rattle.ranges.proofs.Loops.{cells-same, bounded-part, bounded-value}
-use Rattle.ranges.specs.TableParts.{viewNumbers, tablesIn}
 
 -- ## The formed views
 

@@ -3,11 +3,11 @@ use Prim.Native.Nat.{ℕ, _+_}
 use mathlib.Core.Bool.{Bool, true, false, not, _&&_}
 use mathlib.Core.List.{List}
 use lib.Dec.{eqb}
+use Rattle.model.specs.Hall.{maxEntries, maxOrder, maxRecorders}
 use Rattle.codec.specs.Bytes.{part}
 use Rattle.codec.specs.Form.{Form}
 use Rattle.codec.specs.Number.{mark}
 use Rattle.codec.specs.Table.{flags}
-use Rattle.model.specs.Hall.{maxEntries, maxOrder, maxRecorders}
 use Rattle.store.specs.CellForms.{viewNumber}
 use Rattle.store.specs.Layout.{numberSize}
 

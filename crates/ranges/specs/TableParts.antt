@@ -2,11 +2,11 @@
 use Prim.Native.Nat.{ℕ, zero, suc, _+_}
 use mathlib.Core.Bool.{Bool, _&&_}
 use mathlib.Core.List.{List, [], _∷_}
+use Rattle.model.specs.Hall.{maxViews, maxRecorders}
 use Rattle.codec.specs.Bytes.{part}
 use Rattle.codec.specs.Form.{Form}
 use Rattle.codec.specs.Number.{value}
 use Rattle.codec.specs.Cells.{cells}
-use Rattle.model.specs.Hall.{maxViews, maxRecorders}
 use Rattle.store.specs.Layout.{networkAt, recordersAt, queuesAt, numberSize, viewSize, entriesAt, entriesSize, recordersSize, networkSize, queuesSize}
 use Rattle.store.specs.CellForms.{recorderForm, placeForm, queueForm}
 use Rattle.store.specs.HallForm.{entriesForm}

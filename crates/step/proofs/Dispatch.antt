@@ -5,9 +5,9 @@ use mathlib.Core.Bool.{false, _||_}
 use mathlib.Core.List.{List}
 use lib.Dec.{eqb}
 use borrow.Author.Tests.{eqb-true, not-false}
-use Rattle.model.specs.Kinds.{Use, unused, word, recorder, number, set, Kind, uses, wrongRecorder, strayWord, inputRefusal}
 use Rattle.base.proofs.Bools.{or-none}
 use Rattle.base.proofs.ChainsLaws.{link}
+use Rattle.model.specs.Kinds.{Use, unused, word, recorder, number, set, Kind, uses, wrongRecorder, strayWord, inputRefusal}
 use Rattle.store.specs.StoredForm.{hallOf}
 use Rattle.answer.specs.declared.Answer.{Answer}
 use Rattle.words.specs.Words.{kindAt}

@@ -10,9 +10,9 @@ use Rattle.base.specs.Chains.{_⨾_}
 use Rattle.base.proofs.ChainsLaws.{chain-none}
 use Rattle.base.proofs.Bools.{by-cases}
 use Rattle.model.specs.Kinds.{Kind, KindWord, kind, noKind, kinds, lastKind, kindOf, inputRefusal}
-use Rattle.model.proofs.KindLaws.{names-kind, past-last}
 use Rattle.model.specs.Answers as model
 use Rattle.model.specs.Call.{wordsOf}
+use Rattle.model.proofs.KindLaws.{names-kind, past-last}
 use Rattle.store.specs.StoredForm.{hallOf, isStored}
 use Rattle.answer.specs.declared.Answer.{Answer}
 use Rattle.answer.specs.Meaning.{meaning}

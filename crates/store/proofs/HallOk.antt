@@ -6,22 +6,22 @@ use mathlib.Core.Logic.{_↔_, _⊎_, inl, inr, ⊎-elim}
 use mathlib.Core.Bool.{false}
 use mathlib.Core.List.{List, []}
 use lib.ListN.{length}
+use Rattle.base.specs.Numbers.{numbers}
+use Rattle.base.specs.Lists.{has}
+use Rattle.base.proofs.Bools.{by-cases}
+use Rattle.base.proofs.NumbersLaws.{numbers-range}
+use Rattle.model.specs.Hall.{maxViews, maxQueue, maxRecorders, Queued, Hall}
 use Rattle.codec.specs.Form.{mapped, renamed, guarded}
 use Rattle.codec.specs.Number.{number}
 use Rattle.codec.specs.Pair.{given}
-use Rattle.base.proofs.Bools.{by-cases}
-use Rattle.base.proofs.NumbersLaws.{numbers-range}
-use Rattle.codec.proofs.TableLaws.{all-keys, each-key}
 use Rattle.codec.specs.Table.{Tabled, table}
-use Rattle.base.specs.Numbers.{numbers}
-use Rattle.base.specs.Lists.{has}
-use Rattle.model.specs.Hall.{maxViews, maxQueue, maxRecorders, Queued, Hall}
+use Rattle.codec.proofs.TableLaws.{all-keys, each-key}
 use Rattle.store.specs.Valid.{QueueIn, InRange, ValidHall}
 use Rattle.store.specs.Cells.{RecorderCell, blankRecorder, recorderAt, PlaceCell, blankPlace, placeAt}
 use Rattle.store.specs.CellForms.{recorderForm, placeForm, queueForm}
-use Rattle.store.proofs.Ranges.{outside-keys, numbered, numbered-in, numbered-out, entries-ok, recorder-ok, recorder-blank, place-ok, place-blank, queue-ok}
 use Rattle.store.specs.ViewForm.{viewsForm}
 use Rattle.store.specs.HallForm.{recordersForm, rowForm, networkForm, queuesForm, bodyForm, afterSize, fields, hallFields, hallForm}
+use Rattle.store.proofs.Ranges.{outside-keys, numbered, numbered-in, numbered-out, entries-ok, recorder-ok, recorder-blank, place-ok, place-blank, queue-ok}
 
 module _ (h : Hall) where
   abbrev created : List ℕ

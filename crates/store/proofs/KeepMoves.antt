@@ -8,24 +8,24 @@ use mathlib.Core.Bool.{Bool, true, false, _&&_, _||_, true≢false, false≢true
 use mathlib.Core.List.{List, [], _∷_}
 use borrow.Author.Tests.{leb-false, ltb-false}
 use lib.ListN.{length}
-use Rattle.codec.proofs.BoundedLaws.{within-nil, within-push}
 use Rattle.base.specs.Lists.{has}
-use Rattle.quorum.specs.Sets.{members}
-use Rattle.base.proofs.ListsLaws.{has-head, has-none, greatest-above, greatest-least}
 use Rattle.base.specs.Update.{upd, upd₂}
+use Rattle.base.proofs.ListsLaws.{has-head, has-none, greatest-above, greatest-least}
+use Rattle.base.proofs.UpdateLaws.{at-place₂, upd-at, upd-at-both, upd₂-same, upd₂-other, upd₂-at, upd-same}
+use Rattle.base.proofs.Bools.{not-both, and-true, or-none}
+use Rattle.quorum.specs.Sets.{members}
 use Rattle.model.specs.Hall.{maxEntries, maxSequence, maxBuffer, maxOrder, maxNumber, Payload, Entries, Message, Message.entry, Message.summary, Queued, Service, Summary, Summaries, normal, send, collect, Recorders, Hall}
 use Rattle.model.specs.Fields.{setPending, setQueue, setNext, setNextSafe, setSafe, setEntries, setService, setSummaries, setRecorders}
 use Rattle.model.specs.Service.{exceedsCreated, createview, newview, gpsnd, vsOrder, gprcv, safe}
 use Rattle.model.specs.Ordering.{Choice, shortorder, fullorder, builtOrder, builtHigh, maxprimary, maxnextconfirm, labelled, sentEntry, summaryOf, sentSummary, entered, heardSummary, established, completes, heardSources, confirmed, reported}
 use Rattle.model.specs.Refusals.{Rules, isPrimary, summariesOf, orderFull, builtTooLong, noRoomToReceive, sequenceFull, bufferFull, newLabelExists, summaryPlaceFull, pendingFull, queueFull}
-use Rattle.model.proofs.Accepting.Room.{isFull, Fits}
 use Rattle.model.specs.Actions.{doSubmit, doForm}
+use Rattle.model.proofs.Accepting.Room.{isFull, Fits}
 use Rattle.model.proofs.Accepting.Moves.{current, membersOf, At, queued, CanLabel, afterLabel, CanSendEntry, afterSendEntry, CanSendSummary, afterSendSummary, CanForm, CanEnter, afterEnter, CanOrder, afterOrder, CanReceive, afterReceive, learnt, joined, told, CanNotice, afterNotice, safeFrom, builtAt, heardOrder, CanConfirm, CanDeliver, Move, submits, labels, sendsEntry, sendsSummary, forms, enters, orders, receives, receivesPrimary, hears, hearsLast, notices, noticesPrimary, noticesSummary, noticesLast, confirms, delivers}
-use Rattle.base.proofs.UpdateLaws.{at-place₂, upd-at, upd-at-both, upd₂-same, upd₂-other, upd₂-at, upd-same}
-use Rattle.base.proofs.Bools.{not-both, and-true, or-none}
 use Rattle.model.proofs.ServiceLaws.{order-queue, order-pending}
 use Rattle.model.proofs.Ordering.Waiting.{first-waiting}
 use Rattle.model.proofs.Ordering.FullOrder.{known-from, full-in}
+use Rattle.codec.proofs.BoundedLaws.{within-nil, within-push}
 use Rattle.store.specs.Valid.{PayloadIn}
 use Rattle.store.proofs.KeepFacts.{Between, none, Named, Names, EntryFacts, ViewFacts, RecorderFacts, SourceFacts, SummaryFacts, SentFacts, QueuedOf, TrafficFacts, MarkIn, Facts, inside?, member-in, listed-names, names-listed}
 use Rattle.store.proofs.KeepParts.{names-more, names-join, listed-rest, at-phase, at-known, at-nextSeq, at-buffer, at-order, at-safe, at-confirm, at-report, at-high, at-heard, at-safeSources, Grows, recorders-grow, sources-grow, sums-grow, traffic-grow, each-at, at-pending, at-queue, at-mark, mark-grow}

@@ -7,13 +7,13 @@ use mathlib.Core.Path.{_≡_, refl, sym, ap, ap₂, _∙_}
 use mathlib.Core.Bool.{true}
 use mathlib.Core.List.{List, [], _∷_}
 use lib.Pow.{pow-pos, pow-mono, pow-add}
-use Rattle.codec.proofs.FormLaws.{Lawful, mapped-lawful}
-use Rattle.codec.specs.Number.{number, byte}
-use Rattle.codec.proofs.NumberLaws.{byte-lawful}
 use Rattle.base.specs.Lists.{has, rising}
-use Rattle.quorum.specs.Sets.{members, mask}
 use Rattle.base.proofs.ListsLaws.{has-head, has-later, rising-cons}
+use Rattle.quorum.specs.Sets.{members, mask}
 use Rattle.quorum.proofs.SetLaws.{rising-members, mask-members, members-range}
+use Rattle.codec.specs.Number.{number, byte}
+use Rattle.codec.proofs.FormLaws.{Lawful, mapped-lawful}
+use Rattle.codec.proofs.NumberLaws.{byte-lawful}
 use Rattle.store.specs.Masks.{SetOf, ViewSet, setForm}
 
 -- a list above a has the lowest a bits clear

@@ -6,28 +6,28 @@ use mathlib.Core.Bool.{true, false, false≢true}
 use mathlib.Core.List.{List, [], _∷_, _++_, map, map-map, map-id}
 use lib.Dec.{lit<, lit≤}
 use lib.ListN.{length-map}
-use Rattle.codec.specs.Form.{Form, mapped, guarded}
-use Rattle.codec.specs.Number.{digits, number}
-use Rattle.codec.proofs.NumberLaws.{number-lawful}
-use Rattle.codec.specs.Pair.{given}
-use Rattle.codec.specs.Table.{lookup}
-use Rattle.codec.proofs.TableLaws.{all-keys, Distinct, Above, above-distinct, lookup-map, lookup-outside, map-lookup, each-key}
 use Rattle.base.specs.Lists.{has, rising, Each}
-use Rattle.quorum.specs.Sets.{members, mask}
 use Rattle.base.proofs.ListsLaws.{rising-cons, rising-above}
+use Rattle.base.proofs.Bools.{by-cases}
+use Rattle.base.proofs.Bools.{by-cases}
+use Rattle.quorum.specs.Sets.{members, mask}
 use Rattle.quorum.proofs.SetLaws.{mask-members}
 use Rattle.model.specs.Hall.{maxViews, maxNumber}
-use Rattle.base.proofs.Bools.{by-cases}
+use Rattle.codec.specs.Form.{Form, mapped, guarded}
+use Rattle.codec.specs.Number.{digits, number}
+use Rattle.codec.specs.Pair.{given}
+use Rattle.codec.specs.Table.{lookup}
+use Rattle.codec.specs.Bounded.{bounded}
+use Rattle.codec.proofs.NumberLaws.{number-lawful}
+use Rattle.codec.proofs.TableLaws.{all-keys, Distinct, Above, above-distinct, lookup-map, lookup-outside, map-lookup, each-key}
+use Rattle.codec.proofs.FormLaws.{Lawful, Inverse, mapped-lawful, guarded-lawful}
+use Rattle.codec.proofs.PairLaws.{pair-lawful}
+use Rattle.codec.proofs.BoundedLaws.{bounded-lawful}
 use Rattle.store.specs.Layout.{numberSize}
 use Rattle.store.specs.Valid.{ViewsIn}
 use Rattle.store.specs.Masks.{setForm, SetOf}
-use Rattle.store.proofs.MasksLaws.{set-lawful}
 use Rattle.store.specs.ViewForm.{viewForm, viewList, viewsForm, numbersOf, setsOf, numbersRise, Views, toViews, fromViews, ViewsOk}
-use Rattle.codec.proofs.FormLaws.{Lawful, Inverse, mapped-lawful, guarded-lawful}
-use Rattle.codec.proofs.PairLaws.{pair-lawful}
-use Rattle.codec.specs.Bounded.{bounded}
-use Rattle.codec.proofs.BoundedLaws.{bounded-lawful}
-use Rattle.base.proofs.Bools.{by-cases}
+use Rattle.store.proofs.MasksLaws.{set-lawful}
 
 pub view-lawful : (n : ℕ) → n ≤ 8 → Lawful (viewForm n)
 unfolding viewForm

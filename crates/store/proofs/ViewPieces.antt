@@ -7,18 +7,18 @@ use mathlib.Core.Path.{_≡_, refl, sym, subst}
 use mathlib.Core.List.{List, [], _∷_, map}
 use lib.Dec.{lit<}
 use lib.ListN.{length, getD, length-map}
+use Rattle.model.specs.Hall.{maxViews, maxRecorders, Hall}
 use Rattle.codec.specs.Form.{renamed}
-use Rattle.codec.proofs.FormLaws.{renaming}
 use Rattle.codec.specs.Number.{byte}
+use Rattle.codec.proofs.FormLaws.{renaming}
 use Rattle.codec.proofs.NumberLaws.{byte-lawful}
 use Rattle.codec.proofs.BoundedLaws.{bounded-count, bounded-cell}
 use Rattle.codec.proofs.Piece.{View, head, tail, inner-view, mapped-view, guarded-view, restated-view}
-use Rattle.model.specs.Hall.{maxViews, maxRecorders, Hall}
 use Rattle.store.specs.Layout.{viewsAt, viewCells, viewSize}
 use Rattle.store.specs.Cells.{entryAt, recorderAt, placeAt}
 use Rattle.store.specs.ViewForm.{ViewsOk, toViews, fromViews, viewForm, numbersRise, viewList, viewsForm}
-use Rattle.store.proofs.ViewFormLaws.{view-lawful, views-inverse}
 use Rattle.store.specs.HallForm.{bodyForm, afterSize, fields, toHall, fromHall, viewsOf, hallFields}
+use Rattle.store.proofs.ViewFormLaws.{view-lawful, views-inverse}
 
 -- N
 pub size-view : View hallFields (byte 1 maxRecorders) 0 (λ h. Unit {0}) (λ h. h .size)

@@ -3,11 +3,11 @@ use Prim.Native.Nat.{ℕ, _-_, _^_}
 use mathlib.Core.Path.{_≡_}
 use mathlib.Core.Bool.{true}
 use mathlib.Core.List.{List, []}
-use Rattle.codec.specs.Form.{Form, mapped}
-use Rattle.codec.specs.Number.{byte}
 use Rattle.base.specs.Lists.{rising}
 use Rattle.quorum.specs.Sets.{members, mask}
 use Rattle.model.specs.Hall.{maxRecorders}
+use Rattle.codec.specs.Form.{Form, mapped}
+use Rattle.codec.specs.Number.{byte}
 use Rattle.store.specs.Valid.{EachIn}
 
 -- a rising list within 1 to n

@@ -2,13 +2,13 @@
 use Prim.Native.Nat.{ℕ}
 use mathlib.Core.Bool.{Bool}
 use mathlib.Core.List.{List, [], map}
+use Rattle.base.specs.Lists.{rising}
+use Rattle.model.specs.Hall.{maxViews, maxNumber}
 use Rattle.codec.specs.Form.{Form, mapped, guarded}
 use Rattle.codec.specs.Number.{number}
 use Rattle.codec.specs.Pair.{pair}
 use Rattle.codec.specs.Bounded.{bounded}
 use Rattle.codec.specs.Table.{lookup}
-use Rattle.base.specs.Lists.{rising}
-use Rattle.model.specs.Hall.{maxViews, maxNumber}
 use Rattle.store.specs.Layout.{numberSize, viewSize, viewsSize}
 use Rattle.store.specs.Valid.{ViewsIn}
 use Rattle.store.specs.Masks.{setForm}

@@ -8,8 +8,8 @@ use mathlib.Core.List.{List, [], _∷_, _++_, append-assoc}
 use lib.Dec.{ltb}
 use lib.ListN.{length, length-append}
 use borrow.Author.Tests.{ltb-true, ltb-false, lt-ltb, le-ltb}
-use Rattle.model.specs.Listing.{digits, decimal}
 use Rattle.base.proofs.Bools.{by-cases}
+use Rattle.model.specs.Listing.{digits, decimal}
 
 -- the last digit of x
 abbrev pub lastDigit : ℕ → ℕ

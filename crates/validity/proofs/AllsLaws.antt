@@ -8,13 +8,13 @@ use mathlib.Core.Logic.{⊎-elim}
 use mathlib.Core.List.{List, [], _∷_, _++_}
 use lib.ListN.{length, getD}
 use borrow.Author.Tests.{ne-eqb}
-use Rattle.codec.specs.Bytes.{part}
-use Rattle.codec.proofs.BytesLaws.{part-rest}
-use Rattle.base.proofs.Bools.{by-cases}
 use Rattle.base.specs.Lists.{has, all}
 use Rattle.base.specs.Numbers.{upTo}
+use Rattle.base.proofs.Bools.{by-cases}
 use Rattle.base.proofs.ListsLaws.{has-head, has-later, has-cons, has-there}
 use Rattle.base.proofs.NumbersLaws.{has-upTo}
+use Rattle.codec.specs.Bytes.{part}
+use Rattle.codec.proofs.BytesLaws.{part-rest}
 use Rattle.store.specs.Layout.{viewSize, viewCells}
 use Rattle.ranges.specs.TableParts.{viewNumbers}
 use Rattle.validity.specs.Alls.{viewAt}

@@ -8,26 +8,26 @@ use lib.Dec.{eqb, ltb}
 use lib.ListN.{length, getD, take, set, getD-replicate, List·getD-eq-default}
 use lib.Seq.{getD-set-same, getD-set-other}
 use borrow.Author.Tests.{eq-eqb, ne-eqb, eqb-true, eqb-false, ltb-true, ltb-false, lt-ltb, le-ltb, le-leb, lt-leb}
-use Rattle.codec.specs.Bytes.{Block, part, zeros}
-use Rattle.codec.proofs.BytesLaws.{block-part}
-use Rattle.codec.specs.Form.{guarded}
-use Rattle.codec.specs.Number.{value}
-use Rattle.codec.specs.Slice.{Held, holds, valueOf}
-use Rattle.codec.proofs.SliceLaws.{areBytes-of}
-use Rattle.base.proofs.Bools.{by-cases}
 use Rattle.base.specs.Lists.{has}
+use Rattle.base.proofs.Bools.{by-cases}
 use Rattle.quorum.specs.Sets.{members}
 use Rattle.model.specs.Ordering.{isLabelled}
 use Rattle.model.specs.Hall.{maxEntries}
+use Rattle.codec.specs.Bytes.{Block, part, zeros}
+use Rattle.codec.specs.Form.{guarded}
+use Rattle.codec.specs.Number.{value}
+use Rattle.codec.specs.Slice.{Held, holds, valueOf}
+use Rattle.codec.proofs.BytesLaws.{block-part}
+use Rattle.codec.proofs.SliceLaws.{areBytes-of}
 use Rattle.store.specs.Layout.{storedLength, numberSize, entryLabelAt, entrySequenceAt, entrySize, entryCells}
 use Rattle.store.specs.Valid.{labelledEntry, crossRules}
 use Rattle.store.specs.HallForm.{hallFields, hallForm}
 use Rattle.store.specs.StoredForm.{isStored}
 use Rattle.validity.specs.Marks.{marked, messageMarked, sentAt}
-use Rattle.validity.proofs.MarksLaws.{marked-low, marked-high, marked-in}
 use Rattle.validity.specs.RawHall.{raw, sizeAt, entryCount, setAt}
-use Rattle.validity.proofs.RawHallLaws.{count-in}
 use Rattle.validity.specs.CrossParts.{Labels, queuedOk, apart}
+use Rattle.validity.proofs.MarksLaws.{marked-low, marked-high, marked-in}
+use Rattle.validity.proofs.RawHallLaws.{count-in}
 use Rattle.validity.proofs.CrossPartsLaws.{sender-at, view-at, seq-at, labelled-at, unlabelled}
 
 -- ## The labels

@@ -9,41 +9,41 @@ use lib.Dec.{eqb, ltb}
 use lib.ListN.{length, getD, drop}
 use lib.Seq.{drop-drop}
 use borrow.Author.Tests.{eqb-true, eqb-false, ltb-true, ltb-false}
-use Rattle.codec.specs.Bytes.{part}
-use Rattle.codec.proofs.BytesLaws.{part-cons}
-use Rattle.codec.specs.Number.{value, byte}
-use Rattle.codec.specs.Cells.{decodeAll}
-use Rattle.codec.proofs.CellsLaws.{length-decodeAll}
-use Rattle.codec.specs.Bounded.{bounded}
-use Rattle.codec.specs.ByteList.{listAt}
-use Rattle.codec.proofs.ByteListLaws.{decode-list, valid-list-count}
-use Rattle.codec.specs.Slice.{Held}
-use Rattle.base.proofs.Bools.{by-cases}
-use Rattle.codec.specs.Table.{flags}
 use Rattle.base.specs.Lists.{has, all}
 use Rattle.base.specs.Numbers.{upTo}
-use Rattle.quorum.specs.Sets.{members}
+use Rattle.base.proofs.Bools.{by-cases}
 use Rattle.base.proofs.NumbersLaws.{upTo-range, has-upTo}
+use Rattle.quorum.specs.Sets.{members}
 use Rattle.quorum.proofs.SetLaws.{members-range}
 use Rattle.model.specs.Hall.{maxEntries, Entries, Message, Message.summary, Queued, Summary, Hall, maxBuffer, maxOrder, maxRecorders}
 use Rattle.model.specs.Opening.{blankSummary}
 use Rattle.model.specs.Ordering.{isLabelled, numbers}
+use Rattle.codec.specs.Bytes.{part}
+use Rattle.codec.specs.Number.{value, byte}
+use Rattle.codec.specs.Cells.{decodeAll}
+use Rattle.codec.specs.Bounded.{bounded}
+use Rattle.codec.specs.ByteList.{listAt}
+use Rattle.codec.specs.Slice.{Held}
+use Rattle.codec.specs.Table.{flags}
+use Rattle.codec.proofs.BytesLaws.{part-cons}
+use Rattle.codec.proofs.CellsLaws.{length-decodeAll}
+use Rattle.codec.proofs.ByteListLaws.{decode-list, valid-list-count}
 use Rattle.store.specs.Layout.{entryCells, entrySize, recordersAt, recorderSize, queuesAt, queueSize, numberSize, payloadSize, entryPayloadAt, entryLabelAt, entrySequenceAt, listSize, recorderBufferAt, recorderOrderAt, recorderKnownAt, recorderSafeAt, recorderHeardAt, recorderSafeSourcesAt, summaryOrderAt, placeSummaryAt}
 use Rattle.store.specs.Valid.{labelsApart, labelledEntry, listNames, setNames, messageNames, messagesName, queueNames, summaryNames, recorderCross, placeCross, crossRules}
 use Rattle.store.specs.Cells.{EntryCell, RecorderCell, entryAt, recorderAt}
 use Rattle.store.specs.CellForms.{messageForm, queuedForm, recorderForm}
-use Rattle.store.proofs.CellFormsLaws.{message-lawful}
 use Rattle.store.specs.HallForm.{hallFields}
+use Rattle.store.proofs.CellFormsLaws.{message-lawful}
 use Rattle.ranges.specs.TableParts.{viewNumbers}
-use Rattle.validity.proofs.AllsLaws.{all-same, all-true}
 use Rattle.validity.specs.Alls.{viewAt, Found}
-use Rattle.validity.proofs.MarksLaws.{marked-low, message-summary, message-entry, flags-at}
 use Rattle.validity.specs.Marks.{messageMarked, flagAt, placeOff, sentAt, setOk, sourceOk, heardOk}
-use Rattle.validity.proofs.Values.{viewNumber-value, summary-value, recorder-value, messageOf, message-value, queued-value}
 use Rattle.validity.specs.RawHall.{raw, sizeAt, viewCount, entryCount, setAt}
+use Rattle.validity.specs.CrossParts.{Labels, queuedOk, summaryOk, apart, viewCross}
+use Rattle.validity.proofs.AllsLaws.{all-same, all-true}
+use Rattle.validity.proofs.MarksLaws.{marked-low, message-summary, message-entry, flags-at}
+use Rattle.validity.proofs.Values.{viewNumber-value, summary-value, recorder-value, messageOf, message-value, queued-value}
 use Rattle.validity.proofs.RawHallLaws.{set-in, set-out, no-members, long, size-in, raw-size, raw-created, raw-count, raw-entry, view-members, found-members}
 use Rattle.validity.proofs.RawCells.{raw-recorder, recorder-lists, queue-list, place-room, pending-count, pending-list, raw-sent, summary-none, summary-some, summary-list}
-use Rattle.validity.specs.CrossParts.{Labels, queuedOk, summaryOk, apart, viewCross}
 
 -- ## Entries
 

@@ -9,15 +9,15 @@ use lib.Dec.{eqb}
 use lib.ListN.{length, getD, drop, length-take, length-drop}
 use lib.Seq.{getD-take, getD-drop}
 use borrow.Author.Tests.{eq-eqb, ne-eqb, eqb-true, eqb-false, lt-ltb, le-ltb, le-leb, lt-leb}
+use Rattle.base.specs.Numbers.{numbers}
+use Rattle.base.proofs.Bools.{by-cases}
+use Rattle.base.proofs.NumbersLaws.{length-numbers}
+use Rattle.model.specs.Hall.{maxEntries}
 use Rattle.codec.specs.Bytes.{part}
 use Rattle.codec.specs.Form.{mapped}
 use Rattle.codec.specs.Number.{value, number, flag}
 use Rattle.codec.specs.Cells.{decodeAll, cells}
-use Rattle.base.proofs.Bools.{by-cases}
-use Rattle.base.proofs.NumbersLaws.{length-numbers}
 use Rattle.codec.specs.Table.{lookup, table, flags}
-use Rattle.base.specs.Numbers.{numbers}
-use Rattle.model.specs.Hall.{maxEntries}
 use Rattle.validity.specs.Marks.{marked, messageMarked, flagAt}
 
 module _ (l : List ℕ) (x : ℕ) where

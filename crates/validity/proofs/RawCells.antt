@@ -7,31 +7,31 @@ use mathlib.Core.List.{List}
 use lib.Dec.{eqb, ltb, leb}
 use lib.ListN.{length, getD, drop}
 use borrow.Author.Tests.{ltb-true, ltb-false, eqb-true, eqb-false, leb-true}
+use Rattle.base.proofs.Bools.{by-cases}
+use Rattle.model.specs.Hall.{Message, Summary, maxEntries, maxSequence, maxBuffer, maxOrder, maxPending, maxQueue}
+use Rattle.model.specs.Opening.{blankSummary}
 use Rattle.codec.specs.Bytes.{part}
 use Rattle.codec.specs.Form.{Form}
 use Rattle.codec.specs.Number.{byte, mark}
 use Rattle.codec.specs.Cells.{decodeAll, cells}
 use Rattle.codec.specs.Bounded.{bounded}
 use Rattle.codec.specs.Slice.{Held}
-use Rattle.codec.proofs.SliceLaws.{slice-value, slice-valid}
-use Rattle.base.proofs.Bools.{by-cases}
 use Rattle.codec.specs.Table.{flags}
-use Rattle.model.specs.Hall.{Message, Summary, maxEntries, maxSequence, maxBuffer, maxOrder, maxPending, maxQueue}
-use Rattle.model.specs.Opening.{blankSummary}
+use Rattle.codec.proofs.SliceLaws.{slice-value, slice-valid}
 use Rattle.store.specs.Layout.{recordersAt, recorderSize, placeSize, queuesAt, queueSize, numberSize, listSize, summarySize, sentSize, placeSentAt, placeSummaryAt, messagesSize, summaryOrderAt}
 use Rattle.store.specs.Cells.{recorderAt, placeAt}
 use Rattle.store.specs.CellForms.{viewNumber, summaryForm, sentForm, recorderForm, messageForm, placeForm, queuedForm, queueForm}
-use Rattle.store.proofs.CellFormsLaws.{recorder-lawful, place-lawful, queue-lawful}
 use Rattle.store.specs.HallForm.{hallFields}
+use Rattle.store.proofs.CellFormsLaws.{recorder-lawful, place-lawful, queue-lawful}
 use Rattle.store.proofs.HallFormLaws.{hallFields-lawful}
 use Rattle.store.proofs.Pieces.{recorder-piece, place-piece, queue-piece}
+use Rattle.ranges.specs.CellParts.{recorderRest}
 use Rattle.ranges.proofs.Loops.{bounded-part, bounded-value}
 use Rattle.ranges.proofs.CellPartsLaws.{recorder-part, place-part, sent-over, sent-some, summary-part}
-use Rattle.ranges.specs.CellParts.{recorderRest}
 use Rattle.validity.specs.Alls.{viewAt}
 use Rattle.validity.specs.Marks.{placeOff, sentAt}
-use Rattle.validity.proofs.Values.{place-value, unsent-value, sent-value}
 use Rattle.validity.specs.RawHall.{raw, sizeAt, viewCount}
+use Rattle.validity.proofs.Values.{place-value, unsent-value, sent-value}
 use Rattle.validity.proofs.RawHallLaws.{long, size-in, views-in, raw-size, view-formed, view-place}
 
 -- of a conjunction that holds, each part does

@@ -9,39 +9,39 @@ use lib.Dec.{eqb, ltb}
 use lib.Pow.{pow-pos}
 use lib.ListN.{length, getD}
 use borrow.Author.Tests.{ltb-true, ltb-false, lt-ltb, le-ltb}
+use Rattle.base.specs.Numbers.{numbers, upTo}
+use Rattle.base.specs.Lists.{has}
+use Rattle.base.proofs.Bools.{by-cases}
+use Rattle.base.proofs.ListsLaws.{has-filter, key-has}
+use Rattle.quorum.specs.Sets.{members, inMask}
+use Rattle.model.specs.Hall.{maxEntries, maxRecorders, Hall, maxViews}
 use Rattle.codec.specs.Bytes.{part}
 use Rattle.codec.specs.Form.{mapped, renamed}
 use Rattle.codec.specs.Number.{value, byte}
 use Rattle.codec.specs.Pair.{pair}
 use Rattle.codec.specs.Slice.{Held, valueOf}
-use Rattle.codec.proofs.SliceLaws.{value-ok, slice-value}
-use Rattle.base.proofs.Bools.{by-cases}
-use Rattle.codec.proofs.TableLaws.{key-place}
 use Rattle.codec.specs.Table.{place, table}
-use Rattle.base.specs.Numbers.{numbers, upTo}
-use Rattle.base.specs.Lists.{has}
-use Rattle.quorum.specs.Sets.{members, inMask}
-use Rattle.base.proofs.ListsLaws.{has-filter, key-has}
-use Rattle.model.specs.Hall.{maxEntries, maxRecorders, Hall, maxViews}
+use Rattle.codec.proofs.SliceLaws.{value-ok, slice-value}
+use Rattle.codec.proofs.TableLaws.{key-place}
 use Rattle.store.specs.Layout.{storedLength, entryCells, entrySize, numberSize, wordSize, viewSetAt, viewSize, payloadSize, entryPayloadAt, viewsAt, viewCells, entriesAt, viewsSize}
 use Rattle.store.specs.Valid.{InRange}
 use Rattle.store.specs.Cells.{blankEntry, entryAt}
 use Rattle.store.specs.CellForms.{entryForm}
-use Rattle.store.proofs.CellFormsLaws.{entry-lawful}
-use Rattle.store.proofs.ViewFormLaws.{view-lawful, rising-distinct}
 use Rattle.store.specs.ViewForm.{viewsForm}
 use Rattle.store.specs.HallForm.{entriesForm, recordersForm, networkForm, queuesForm, bodyForm, afterSize, fields, hallFields}
+use Rattle.store.proofs.CellFormsLaws.{entry-lawful}
+use Rattle.store.proofs.ViewFormLaws.{view-lawful, rising-distinct}
 use Rattle.store.proofs.HallFormLaws.{hallFields-lawful}
 use Rattle.store.proofs.HallOk.{fields-ok}
 use Rattle.store.proofs.Pieces.{entry-piece}
 use Rattle.store.proofs.ViewPieces.{view-view}
+use Rattle.ranges.specs.TableParts.{viewNumbers}
 use Rattle.ranges.proofs.Parts.{given-value, byte-in}
 use Rattle.ranges.proofs.CellPartsLaws.{entry-value}
-use Rattle.ranges.specs.TableParts.{viewNumbers}
 use Rattle.ranges.proofs.TablePartsLaws.{length-viewNumbers, views-count, views-created, whole-parts}
 use Rattle.validity.specs.Alls.{viewAt, Found}
-use Rattle.validity.proofs.Values.{byte-value, view-value}
 use Rattle.validity.specs.RawHall.{raw, sizeAt, viewCount, entryCount, setAt, Ranged}
+use Rattle.validity.proofs.Values.{byte-value, view-value}
 
 pub set-in : (b : List ℕ) (i : ℕ) → i < viewCount b → setAt b i ≡ getD b (viewCells + i * viewSize + viewSetAt) 0
 unfolding setAt

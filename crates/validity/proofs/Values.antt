@@ -6,17 +6,17 @@ use mathlib.Core.Bool.{Bool, true, false}
 use mathlib.Core.List.{List, [], _∷_}
 use mathlib.Core.Option.{Option, none, some}
 use lib.ListN.{length, getD, drop}
+use Rattle.quorum.specs.Sets.{members}
+use Rattle.model.specs.Hall.{Message, Message.entry, Message.summary, Queued, Summary, Phase, maxEntries, maxSequence, maxBuffer, maxOrder, maxPending, maxQueue, maxRecorders}
+use Rattle.model.specs.Opening.{blankSummary}
 use Rattle.codec.specs.Bytes.{part}
 use Rattle.codec.specs.Form.{Form, mapped, renamed}
 use Rattle.codec.specs.Number.{value, number, byte, mark}
-use Rattle.codec.proofs.NumberLaws.{value-byte, number-decode}
 use Rattle.codec.specs.Pair.{given}
 use Rattle.codec.specs.Cells.{decodeAll}
 use Rattle.codec.specs.Bounded.{bounded, optional}
 use Rattle.codec.specs.Table.{flags}
-use Rattle.quorum.specs.Sets.{members}
-use Rattle.model.specs.Hall.{Message, Message.entry, Message.summary, Queued, Summary, Phase, maxEntries, maxSequence, maxBuffer, maxOrder, maxPending, maxQueue, maxRecorders}
-use Rattle.model.specs.Opening.{blankSummary}
+use Rattle.codec.proofs.NumberLaws.{value-byte, number-decode}
 use Rattle.store.specs.Layout.{recorderSize, placeSize, summarySize, viewSize, numberSize, listSize, summaryOrderAt, sentSize, viewSetAt, recorderPhaseAt}
 use Rattle.store.specs.Cells.{RecorderCell, PlaceCell}
 use Rattle.store.specs.CellForms.{viewNumber, entryList, summaryForm, sentForm, phaseForm, recorderForm, messageForm, placeForm, queuedForm}

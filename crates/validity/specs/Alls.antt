@@ -3,9 +3,9 @@ use Prim.Native.Nat.{ℕ, _+_, _*_, _≤_, _<_}
 use mathlib.Core.Path.{_≡_}
 use mathlib.Core.Bool.{false}
 use mathlib.Core.List.{List}
+use Rattle.base.specs.Lists.{has}
 use Rattle.codec.specs.Bytes.{part}
 use Rattle.codec.specs.Number.{value}
-use Rattle.base.specs.Lists.{has}
 use Rattle.store.specs.Layout.{numberSize, viewSize, viewCells}
 use Rattle.ranges.specs.TableParts.{viewNumbers}
 

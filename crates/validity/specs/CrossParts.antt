@@ -5,12 +5,12 @@ use mathlib.Core.Bool.{Bool, false, not, _&&_, _||_}
 use mathlib.Core.List.{List}
 use lib.Dec.{eqb}
 use lib.ListN.{getD}
-use Rattle.codec.specs.ByteList.{listAt}
 use Rattle.base.specs.Lists.{has, all}
 use Rattle.base.specs.Numbers.{upTo}
 use Rattle.quorum.specs.Sets.{members}
 use Rattle.model.specs.Hall.{Entries, Hall, maxEntries}
 use Rattle.model.specs.Ordering.{isLabelled}
+use Rattle.codec.specs.ByteList.{listAt}
 use Rattle.store.specs.Valid.{labelledEntry, queueNames, placeCross}
 use Rattle.store.specs.Cells.{EntryCell}
 use Rattle.store.specs.Layout.{summaryOrderAt, placeSentAt, placeSummaryAt}

@@ -5,10 +5,9 @@ use mathlib.Core.Bool.{true, false}
 use mathlib.Core.List.{List}
 use lib.Dec.{ltb}
 use lib.ListN.{length, getD}
-use Rattle.codec.specs.Slice.{Held, valueOf}
 use Rattle.model.specs.Hall.{Hall, maxEntries, maxViews, maxRecorders}
+use Rattle.codec.specs.Slice.{Held, valueOf}
 use Rattle.store.specs.Layout.{storedLength, viewSetAt, viewSize, viewsAt, viewCells, entriesAt}
-use Rattle.store.specs.Valid.{InRange}
 use Rattle.store.specs.HallForm.{hallFields}
 
 -- the hall of the first bytes of b

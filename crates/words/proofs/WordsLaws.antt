@@ -11,9 +11,9 @@ use lib.Dec.{eqb, leb, ltb}
 use borrow.Author.Tests.{eq-eqb, ne-eqb, le-leb, lt-leb, lt-ltb, le-ltb, leb-true, leb-false}
 use Rattle.base.specs.Numbers.{within}
 use Rattle.base.specs.Chains.{refuse, _⨾_}
+use Rattle.base.proofs.Bools.{true-or-false}
 use Rattle.model.specs.Kinds as model
 use Rattle.model.specs.Kinds.{Kind, uses, wrongRecorder, strayWord, wrongNumber, wrongSet, inputRefusal}
-use Rattle.base.proofs.Bools.{true-or-false}
 use Rattle.words.specs.declared.Uses.{Uses}
 use Rattle.words.specs.Words.{useOf, usesOf}
 

@@ -4,15 +4,15 @@ use Prim.Native.Nat.{_/_}
 use native.Mathlib.Omega.{arith}
 use lib.ListN.{length}
 use mathlib.Core.Path.{sym, _∙_}
+use borrow.Author.Needs.{needs}
 use Rattle.base.proofs.Bools.{by-cases}
 use Rattle.store.specs.StoredForm.{isStored}
+use Rattle.step.proofs.StepsLaws.{bytes-hall, bytes-hold}
 use Rattle.runfile.specs.Answers.{actionsOf}
 use Rattle.runfile.proofs.WriteLaws.{length-actionsOf}
-use Rattle.step.proofs.StepsLaws.{bytes-hall, bytes-hold}
 use Rattle.bench_api.proofs.Runs.{run-all, run-broken}
 use Rattle.bench_api.proofs.hall_steps.Statement.{statement}
 use Rattle.bench_api.proofs.hall_steps.Tie as tie
-use borrow.Author.Needs.{needs}
 
 bytes-refusal-requires : tie.Need-bytes-refusal-requires
 bytes-refusal-requires c κs = search needs

@@ -1,12 +1,12 @@
 -- Each arm gives the length of its case. Assumes nothing.
 use native.Mathlib.Omega.{arith}
 use mathlib.Core.List.{[], _∷_}
-use Rattle.answer.specs.Meaning.{meaning}
+use borrow.Author.Needs.{needs}
 use Rattle.model.specs.Listing.{decimal, answerFields, ok-word, from-word, refused-word}
+use Rattle.answer.specs.Meaning.{meaning}
 use Rattle.text.proofs.FieldsLaws.{length-fields, length-close}
 use Rattle.listing.proofs.answer_len.Statement.{statement}
 use Rattle.listing.proofs.answer_len.Tie as tie
-use borrow.Author.Needs.{needs}
 
 enum-told : tie.Need-enum-told
 enum-told c = search needs

@@ -1,12 +1,12 @@
 -- Each arm gives the length of its case. Assumes nothing.
 use native.Mathlib.Omega.{arith}
+use borrow.Author.Needs.{needs}
 use Rattle.model.specs.Payloads.{payloadMeaning}
 use Rattle.model.specs.Listing.{answerFields}
 use Rattle.answer.specs.Meaning.{contentMeaning}
 use Rattle.listing.proofs.LinesLaws.{length-entry, length-summary}
 use Rattle.listing.proofs.message_len.Statement.{statement}
 use Rattle.listing.proofs.message_len.Tie as tie
-use borrow.Author.Needs.{needs}
 
 enum-known-content : tie.Need-enum-known-content
 enum-known-content c = search needs

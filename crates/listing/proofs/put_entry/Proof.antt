@@ -1,12 +1,12 @@
 -- The word, the label and the value. Assumes nothing.
 use native.Mathlib.Omega.{arith}
+use borrow.Author.Needs.{needs}
 use Rattle.model.specs.Payloads.{payloadMeaning}
 use Rattle.model.specs.Listing.{fieldsAfter, entry-word}
 use Rattle.text.proofs.TextLaws.{then}
 use Rattle.listing.proofs.LinesLaws.{length-entry}
 use Rattle.listing.proofs.put_entry.Statement.{statement}
 use Rattle.listing.proofs.put_entry.Tie as tie
-use borrow.Author.Needs.{needs}
 
 slice-aggregate-put-field : tie.Need-slice-aggregate-put-field
 slice-aggregate-put-field c = search needs

@@ -1,12 +1,12 @@
 -- The word, then the number. Assumes nothing.
 use native.Mathlib.Omega.{arith}
 use mathlib.Core.List.{[], _∷_}
+use borrow.Author.Needs.{needs}
+use Rattle.model.specs.Listing.{decimal, line, hall-word}
 use Rattle.text.proofs.TextLaws.{then}
 use Rattle.text.proofs.FieldsLaws.{length-line}
-use Rattle.model.specs.Listing.{decimal, line, fieldsAfter, hall-word}
 use Rattle.listing.proofs.put_hall_line.Statement.{statement}
 use Rattle.listing.proofs.put_hall_line.Tie as tie
-use borrow.Author.Needs.{needs}
 
 slice-aggregate-put-word : tie.Need-slice-aggregate-put-word
 slice-aggregate-put-word c = search needs

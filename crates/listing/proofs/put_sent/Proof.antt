@@ -1,12 +1,12 @@
 -- The word, then sender and value. Assumes nothing.
 use native.Mathlib.Omega.{arith}
 use mathlib.Core.List.{[], _∷_}
+use borrow.Author.Needs.{needs}
+use Rattle.model.specs.Listing.{decimal, fieldsAfter, from-word}
 use Rattle.text.proofs.TextLaws.{then}
 use Rattle.text.proofs.FieldsLaws.{length-fields}
-use Rattle.model.specs.Listing.{decimal, fieldsAfter, from-word}
 use Rattle.listing.proofs.put_sent.Statement.{statement}
 use Rattle.listing.proofs.put_sent.Tie as tie
-use borrow.Author.Needs.{needs}
 
 slice-aggregate-put-field : tie.Need-slice-aggregate-put-field
 slice-aggregate-put-field c = search needs

@@ -3,10 +3,10 @@ use borrow.Author.Needs.{needs}
 use Prim.Native.Nat.{ℕ, _+_, _-_, _≤_}
 use native.Mathlib.Omega.{arith}
 use mathlib.Core.Path.{_≡_, refl, subst, ap, sym, _∙_}
-use lib.ListN.{length, getD, take, drop, set, length-set}
+use lib.ListN.{length, getD, take, set, length-set}
 use Rattle.codec.specs.Bytes.{part}
-use Rattle.codec.proofs.BytesLaws.{get-step}
 use Rattle.codec.specs.ByteList.{listCapacity}
+use Rattle.codec.proofs.BytesLaws.{get-step}
 use Rattle.lists.proofs.EndsLaws.{popped}
 use Rattle.lists.proofs.pop.Statement.{statement}
 use Rattle.lists.proofs.pop.Tie as tie

@@ -1,6 +1,6 @@
 -- `marshal::or_no_room` meets its contract. Assumes nothing.
-use Rattle.base.specs.Chains.{_⨾_}
 use borrow.Author.Tests.{eq-eqb, ne-eqb}
+use Rattle.base.specs.Chains.{_⨾_}
 use Rattle.marshal.proofs.or_no_room.Statement.{statement}
 use Rattle.marshal.proofs.or_no_room.Tie as tie
 

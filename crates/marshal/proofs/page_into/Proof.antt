@@ -2,14 +2,14 @@
 use denote.Ref.{now}
 use native.Mathlib.Omega.{arith}
 use lib.ListN.{length}
-use mathlib.Core.Path.{_≡_, sym, ap, _∙_}
+use mathlib.Core.Path.{sym, ap, _∙_}
+use borrow.Author.Needs.{needs}
 use Rattle.model.specs.Page.{PageAnswer, plainPage}
 use Rattle.answer.specs.Meaning.{pageMeaning}
 use Rattle.calls.specs.Calls.{pageOn}
 use Rattle.calls.specs.Lent.{withAnswer, pageLent}
 use Rattle.calls.proofs.Refused.{lent-refused, lent-short, lent-done}
 use Rattle.marshal.proofs.Answers.{page-values}
-use borrow.Author.Needs.{needs}
 use Rattle.marshal.proofs.page_into.Statement.{statement}
 use Rattle.marshal.proofs.page_into.Tie as tie
 

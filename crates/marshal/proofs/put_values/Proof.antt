@@ -1,13 +1,13 @@
 -- `marshal::put_values` meets its contract. Assumes nothing.
-use Rattle.marshal.proofs.Words.{put-next, put-rest}
-use Rattle.calls.specs.Lent.{wordsBytes}
 use lib.Seq.{sets, length-sets}
 use lib.ListN.{length, take}
-use mathlib.Core.Path.{_≡_, refl, sym, ap, _∙_}
+use mathlib.Core.Path.{_≡_, ap}
 use native.Mathlib.Omega.{arith}
-use Prim.Native.Nat.{_*_, _-_, _≤_}
+use Prim.Native.Nat.{_-_, _≤_}
 use denote.Ref.{now}
 use borrow.Author.Needs.{needs}
+use Rattle.calls.specs.Lent.{wordsBytes}
+use Rattle.marshal.proofs.Words.{put-next, put-rest}
 use Rattle.marshal.proofs.put_values.Statement.{statement}
 use Rattle.marshal.proofs.put_values.Tie as tie
 

@@ -1,16 +1,16 @@
 -- `marshal::step_into` meets its contract. Assumes nothing.
-use Rattle.calls.proofs.Refused.{step-keeps, lent-refused, lent-tried, lent-done}
-use Rattle.marshal.proofs.Answers.{answer-values}
-use Rattle.calls.specs.Lent.{withAnswer, stepLent}
-use Rattle.answer.specs.Meaning.{meaning}
 use lib.ListN.{length}
-use Rattle.model.specs.Call.{wordsOf}
-use Rattle.calls.specs.Calls.{stepOn}
-use Rattle.model.specs.Answers.{Answer, plain}
 use denote.Ref.{now}
-use mathlib.Core.Path.{_≡_, refl, sym, ap, _∙_}
+use mathlib.Core.Path.{sym, ap, _∙_}
 use native.Mathlib.Omega.{arith}
 use borrow.Author.Needs.{needs}
+use Rattle.model.specs.Call.{wordsOf}
+use Rattle.model.specs.Answers.{Answer, plain}
+use Rattle.answer.specs.Meaning.{meaning}
+use Rattle.calls.specs.Lent.{withAnswer, stepLent}
+use Rattle.calls.specs.Calls.{stepOn}
+use Rattle.calls.proofs.Refused.{step-keeps, lent-refused, lent-tried, lent-done}
+use Rattle.marshal.proofs.Answers.{answer-values}
 use Rattle.marshal.proofs.step_into.Statement.{statement}
 use Rattle.marshal.proofs.step_into.Tie as tie
 

@@ -1,13 +1,12 @@
 -- `marshal::try_copy` meets its contract. Assumes nothing.
-use Rattle.marshal.proofs.Answers.{copied, answer-first}
-use Rattle.store.specs.Layout.{storedLength}
-use lib.ListN.{length, take}
-use Rattle.model.specs.Call.{wordsOf}
-use Rattle.calls.specs.Calls.{stepOn}
-use Rattle.model.specs.Answers.{Answer, plain}
 use denote.Ref.{now}
-use mathlib.Core.Path.{_≡_, refl, sym, ap, _∙_}
+use mathlib.Core.Path.{ap, _∙_}
 use borrow.Author.Needs.{needs}
+use Rattle.model.specs.Call.{wordsOf}
+use Rattle.model.specs.Answers.{Answer, plain}
+use Rattle.store.specs.Layout.{storedLength}
+use Rattle.calls.specs.Calls.{stepOn}
+use Rattle.marshal.proofs.Answers.{copied, answer-first}
 use Rattle.marshal.proofs.try_copy.Statement.{statement}
 use Rattle.marshal.proofs.try_copy.Tie as tie
 

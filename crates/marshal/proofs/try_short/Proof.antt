@@ -1,12 +1,11 @@
 -- `marshal::try_short` meets its contract. Assumes nothing.
-use Rattle.marshal.proofs.Answers.{answer-broken}
-use Rattle.store.proofs.StoredFormLaws.{short-broken}
 use lib.Dec.{lit<}
-use Rattle.model.specs.Call.{wordsOf}
-use Rattle.calls.specs.Calls.{stepOn}
-use Rattle.model.specs.Answers.{Answer, plain}
-use mathlib.Core.Path.{_≡_, refl, sym, ap, _∙_}
+use mathlib.Core.Path.{ap, _∙_}
 use borrow.Author.Needs.{needs}
+use Rattle.model.specs.Call.{wordsOf}
+use Rattle.model.specs.Answers.{Answer, plain}
+use Rattle.store.proofs.StoredFormLaws.{short-broken}
+use Rattle.marshal.proofs.Answers.{answer-broken}
 use Rattle.marshal.proofs.try_short.Statement.{statement}
 use Rattle.marshal.proofs.try_short.Tie as tie
 

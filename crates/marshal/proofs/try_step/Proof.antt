@@ -1,7 +1,7 @@
 -- `marshal::try_step` meets its contract. Assumes nothing.
-use Rattle.base.specs.Chains.{_⨾_}
-use mathlib.Core.Path.{_≡_, refl, sym, ap, _∙_}
+use mathlib.Core.Path.{ap, _∙_}
 use borrow.Author.Needs.{needs}
+use Rattle.base.specs.Chains.{_⨾_}
 use Rattle.marshal.proofs.try_step.Statement.{statement}
 use Rattle.marshal.proofs.try_step.Tie as tie
 

@@ -3,12 +3,12 @@ use denote.Ref.{now}
 use native.Mathlib.Omega.{arith}
 use mathlib.Core.Path.{sym, _∙_}
 use borrow.Author.Tests.{not-true, not-false}
+use borrow.Author.Needs.{needs}
+use Rattle.model.specs.Hall.{maxRecorders}
 use Rattle.ranges.proofs.Parts.{byte-in}
 use Rattle.ranges.proofs.TablePartsLaws.{views-count, no-size, no-views, whole-tables}
 use Rattle.ranges.proofs.in_range.Statement.{statement}
 use Rattle.ranges.proofs.in_range.Tie as tie
-use borrow.Author.Needs.{needs}
-use Rattle.model.specs.Hall.{maxRecorders}
 
 valid-byte-requires : tie.Need-valid-byte-requires
 valid-byte-requires c κs = search needs

@@ -2,11 +2,11 @@
 use denote.Ref.{now}
 use native.Mathlib.Omega.{arith}
 use mathlib.Core.Path.{sym, _∙_}
+use borrow.Author.Needs.{needs}
+use Rattle.store.specs.Layout.{entriesAt}
 use Rattle.ranges.proofs.TablePartsLaws.{entries-over, entries-within}
 use Rattle.ranges.proofs.valid_entries.Statement.{statement}
 use Rattle.ranges.proofs.valid_entries.Tie as tie
-use borrow.Author.Needs.{needs}
-use Rattle.store.specs.Layout.{entriesAt}
 
 shared-slice-read-m : tie.Need-shared-slice-read-m
 shared-slice-read-m c = search needs

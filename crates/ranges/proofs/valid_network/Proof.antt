@@ -5,9 +5,9 @@ use Prim.Native.Nat.{_-_, _≤_}
 use native.Mathlib.Omega.{arith}
 use mathlib.Core.Path.{sym, _∙_}
 use borrow.Author.Tests.{not-true, not-false}
-use Rattle.store.specs.CellForms.{placeForm}
-use Rattle.codec.specs.Cells.{cells}
 use Rattle.model.specs.Hall.{maxViews, maxRecorders}
+use Rattle.codec.specs.Cells.{cells}
+use Rattle.store.specs.CellForms.{placeForm}
 use Rattle.store.specs.Layout.{networkAt, queuesAt}
 use Rattle.ranges.proofs.Loops.{Left, left-start, left-next, cells-fail, cells-done}
 use Rattle.ranges.proofs.valid_network.Statement.{statement}

@@ -2,12 +2,12 @@
 use denote.Ref.{now}
 use native.Mathlib.Omega.{arith}
 use mathlib.Core.Path.{sym, _∙_}
+use borrow.Author.Needs.{needs}
+use Rattle.model.specs.Hall.{maxQueue}
 use Rattle.store.specs.CellForms.{queuedForm, queueForm}
 use Rattle.ranges.proofs.Loops.{bounded-over, bounded-within}
 use Rattle.ranges.proofs.valid_queue.Statement.{statement}
 use Rattle.ranges.proofs.valid_queue.Tie as tie
-use borrow.Author.Needs.{needs}
-use Rattle.model.specs.Hall.{maxQueue}
 
 shared-slice-read-m : tie.Need-shared-slice-read-m
 shared-slice-read-m c = search needs

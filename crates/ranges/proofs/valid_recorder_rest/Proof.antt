@@ -1,9 +1,8 @@
 -- Its fields in turn. Assumes nothing.
-use denote.Ref.{now}
+use borrow.Author.Needs.{needs}
 use Rattle.ranges.specs.CellParts.{recorderRest}
 use Rattle.ranges.proofs.valid_recorder_rest.Statement.{statement}
 use Rattle.ranges.proofs.valid_recorder_rest.Tie as tie
-use borrow.Author.Needs.{needs}
 
 add-report : tie.Need-add-report
 add-report c = search needs

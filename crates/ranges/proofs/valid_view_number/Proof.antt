@@ -3,12 +3,12 @@ use denote.Ref.{now}
 use Prim.Native.Nat.{ℕ}
 use mathlib.Core.Path.{sym, ap, _∙_}
 use lib.Dec.{leb}
+use borrow.Author.Needs.{needs}
+use Rattle.model.specs.Hall.{maxNumber}
 use Rattle.store.specs.CellForms.{viewNumber}
 use Rattle.ranges.proofs.Parts.{number-part}
 use Rattle.ranges.proofs.valid_view_number.Statement.{statement}
 use Rattle.ranges.proofs.valid_view_number.Tie as tie
-use borrow.Author.Needs.{needs}
-use Rattle.model.specs.Hall.{maxNumber}
 
 get-u32-requires : tie.Need-get-u32-requires
 get-u32-requires c κs = search needs

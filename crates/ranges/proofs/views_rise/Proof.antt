@@ -2,7 +2,7 @@
 use borrow.Author.Needs.{needs}
 use denote.Ref.{now}
 use Prim.Native.Nat.{ℕ, _+_, _-_, _≤_, _<_}
-use mathlib.Core.Path.{_≡_, sym, subst, _∙_}
+use mathlib.Core.Path.{sym, subst}
 use Rattle.ranges.proofs.TablePartsLaws.{Rises, rises-start, rises-next, rises-fail, rises-done}
 use Rattle.ranges.proofs.views_rise.Statement.{statement}
 use Rattle.ranges.proofs.views_rise.Tie as tie

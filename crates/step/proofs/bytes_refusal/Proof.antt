@@ -1,9 +1,9 @@
 -- `step::bytes_refusal` meets its contract. Assumes nothing.
+use mathlib.Core.Path.{sym, _∙_}
+use borrow.Author.Needs.{needs}
 use Rattle.step.proofs.StepsLaws as steps
 use Rattle.step.proofs.bytes_refusal.Statement.{statement}
 use Rattle.step.proofs.bytes_refusal.Tie as tie
-use mathlib.Core.Path.{_≡_, sym, ap, _∙_}
-use borrow.Author.Needs.{needs}
 
 is-hall-requires : tie.Need-is-hall-requires
 is-hall-requires c κs = search needs

@@ -1,13 +1,12 @@
 -- `step::step_hall` meets its contract. Assumes nothing.
-use Rattle.words.specs.Words.{kindAt}
+use mathlib.Core.Path.{sym, ap, _∙_}
+use denote.Ref.{now}
+use borrow.Author.Needs.{needs}
 use Rattle.model.specs.Kinds.{inputRefusal}
+use Rattle.words.specs.Words.{kindAt}
 use Rattle.step.proofs.StepsLaws as steps
 use Rattle.step.proofs.step_hall.Statement.{statement}
 use Rattle.step.proofs.step_hall.Tie as tie
-use mathlib.Core.Path.{_≡_, sym, ap, _∙_}
-use native.Mathlib.Omega.{arith}
-use denote.Ref.{now}
-use borrow.Author.Needs.{needs}
 
 kind-refusal-requires : tie.Need-kind-refusal-requires
 kind-refusal-requires c κs = search needs

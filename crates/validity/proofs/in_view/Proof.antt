@@ -2,9 +2,9 @@
 use mathlib.Core.Path.{sym, ap, _∙_}
 use mathlib.Core.Bool.{Bool, _||_}
 use borrow.Author.Tests.{eq-eqb, ne-eqb}
+use borrow.Author.Needs.{needs}
 use Rattle.base.specs.Lists.{has}
 use Rattle.quorum.specs.Sets.{members}
-use borrow.Author.Needs.{needs}
 use Rattle.validity.proofs.in_view.Statement.{statement}
 use Rattle.validity.proofs.in_view.Tie as tie
 

@@ -1,11 +1,10 @@
 -- The same entry, no label, or by the parts of the label. Assumes nothing.
 use denote.Ref.{now}
-use Prim.Native.Nat.{ℕ}
 use mathlib.Core.Path.{sym, ap, ap₂, _∙_}
-use mathlib.Core.Bool.{Bool, not, _&&_}
+use mathlib.Core.Bool.{not, _&&_}
 use lib.Dec.{eqb}
-use Rattle.validity.proofs.CodeLaws.{apart-same, apart-none, apart-labels}
 use borrow.Author.Needs.{needs}
+use Rattle.validity.proofs.CodeLaws.{apart-same, apart-none, apart-labels}
 use Rattle.validity.proofs.label_apart.Statement.{statement}
 use Rattle.validity.proofs.label_apart.Tie as tie
 

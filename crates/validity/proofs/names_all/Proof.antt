@@ -3,14 +3,14 @@ use borrow.Author.Needs.{needs}
 use denote.Ref.{now}
 use Prim.Native.Nat.{ℕ, _+_, _-_, _≤_}
 use native.Mathlib.Omega.{arith}
-use mathlib.Core.Path.{_≡_, refl, sym, ap, _∙_}
+use mathlib.Core.Path.{_≡_, sym, ap, _∙_}
 use lib.ListN.{getD}
 use borrow.Author.Tests.{not-true, not-false}
+use Rattle.base.specs.Lists.{all}
 use Rattle.codec.specs.Bytes.{part}
 use Rattle.codec.specs.ByteList.{listAt}
-use Rattle.base.specs.Lists.{all}
-use Rattle.validity.proofs.AllsLaws.{part-none, part-fail, part-next}
 use Rattle.validity.specs.Marks.{messageMarked}
+use Rattle.validity.proofs.AllsLaws.{part-none, part-fail, part-next}
 use Rattle.validity.proofs.names_all.Statement.{statement}
 use Rattle.validity.proofs.names_all.Tie as tie
 

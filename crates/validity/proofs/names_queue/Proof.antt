@@ -6,8 +6,8 @@ use native.Mathlib.Omega.{arith}
 use mathlib.Core.Path.{_≡_, sym, _∙_}
 use lib.ListN.{getD, drop}
 use borrow.Author.Tests.{not-true, not-false}
-use Rattle.codec.specs.Cells.{decodeAll}
 use Rattle.model.specs.Hall.{maxQueue}
+use Rattle.codec.specs.Cells.{decodeAll}
 use Rattle.store.specs.Valid.{queueNames}
 use Rattle.store.specs.CellForms.{queuedForm}
 use Rattle.store.specs.Layout.{queuedSize, queueSize, queuesAt}

@@ -5,6 +5,7 @@ use native.Mathlib.Omega.{arith}
 use mathlib.Core.Path.{sym, ap, _∙_}
 use mathlib.Core.Bool.{Bool}
 use lib.ListN.{getD}
+use borrow.Author.Needs.{needs}
 use Rattle.base.specs.Lists.{has}
 use Rattle.quorum.specs.Sets.{members}
 use Rattle.quorum.proofs.SetLaws.{members-range}
@@ -13,7 +14,6 @@ use Rattle.validity.specs.RawHall.{sizeAt}
 use Rattle.validity.proofs.CodeLaws.{queued-member, queued-other}
 use Rattle.validity.proofs.names_queued.Statement.{statement}
 use Rattle.validity.proofs.names_queued.Tie as tie
-use borrow.Author.Needs.{needs}
 
 shared-slice-read-source : tie.Need-shared-slice-read-source
 shared-slice-read-source c = search needs

@@ -8,8 +8,8 @@ use borrow.Author.Tests.{not-true, not-false}
 use Rattle.base.specs.Numbers.{upTo}
 use Rattle.base.specs.Lists.{all}
 use Rattle.model.specs.Hall.{maxEntries}
-use Rattle.validity.proofs.AllsLaws.{all-none, all-next, all-fail, all-done}
 use Rattle.validity.specs.Marks.{setOk}
+use Rattle.validity.proofs.AllsLaws.{all-none, all-next, all-fail, all-done}
 use Rattle.validity.proofs.names_set.Statement.{statement}
 use Rattle.validity.proofs.names_set.Tie as tie
 

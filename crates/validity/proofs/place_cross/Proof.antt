@@ -5,15 +5,15 @@ use mathlib.Core.Path.{sym, ap, ap₂, _∙_}
 use mathlib.Core.Bool.{Bool, not, _&&_}
 use lib.Dec.{eqb}
 use lib.ListN.{getD}
-use Rattle.codec.specs.ByteList.{listAt}
+use borrow.Author.Needs.{needs}
 use Rattle.base.specs.Lists.{has, all}
 use Rattle.quorum.specs.Sets.{members}
+use Rattle.codec.specs.ByteList.{listAt}
 use Rattle.validity.specs.Marks.{messageMarked, placeOff}
 use Rattle.validity.specs.RawHall.{sizeAt}
 use Rattle.validity.proofs.CrossPartsLaws.{place-member, place-other}
 use Rattle.validity.proofs.place_cross.Statement.{statement}
 use Rattle.validity.proofs.place_cross.Tie as tie
-use borrow.Author.Needs.{needs}
 
 sub-at : tie.Need-sub-at
 sub-at c = search needs

@@ -7,10 +7,10 @@ use mathlib.Core.Bool.{true}
 use borrow.Author.Tests.{not-true, not-false}
 use Rattle.base.specs.Numbers.{upTo}
 use Rattle.base.specs.Lists.{all}
-use Rattle.validity.specs.Alls.{viewAt}
-use Rattle.validity.proofs.AllsLaws.{all-none, all-next, all-fail, all-done}
 use Rattle.store.specs.Valid.{placeCross}
+use Rattle.validity.specs.Alls.{viewAt}
 use Rattle.validity.specs.RawHall.{raw}
+use Rattle.validity.proofs.AllsLaws.{all-none, all-next, all-fail, all-done}
 use Rattle.validity.proofs.places_cross.Statement.{statement}
 use Rattle.validity.proofs.places_cross.Tie as tie
 

@@ -4,18 +4,18 @@ use Prim.Native.Nat.{ℕ, _+_, _-_, _*_}
 use mathlib.Core.Path.{sym, ap, ap₂, subst, _∙_}
 use mathlib.Core.Bool.{_&&_, _||_}
 use lib.Dec.{eqb}
+use borrow.Author.Needs.{needs}
 use Rattle.base.specs.Lists.{has, all}
-use Rattle.quorum.specs.Sets.{members}
 use Rattle.base.specs.Numbers.{upTo}
+use Rattle.quorum.specs.Sets.{members}
+use Rattle.model.specs.Hall.{maxRecorders}
+use Rattle.store.specs.Layout.{recorderHeardAt, recorderSafeSourcesAt, recorderSize, recordersAt}
 use Rattle.validity.specs.Alls.{Found}
 use Rattle.validity.specs.Marks.{heardOk, sourceOk}
 use Rattle.validity.specs.RawHall.{sizeAt, viewCount}
 use Rattle.validity.proofs.CrossPartsLaws.{recorder-cross}
 use Rattle.validity.proofs.recorder_cross.Statement.{statement}
 use Rattle.validity.proofs.recorder_cross.Tie as tie
-use borrow.Author.Needs.{needs}
-use Rattle.model.specs.Hall.{maxRecorders}
-use Rattle.store.specs.Layout.{recorderHeardAt, recorderSafeSourcesAt, recorderSize, recordersAt}
 
 sub-at : tie.Need-sub-at
 sub-at c = search needs

@@ -7,9 +7,9 @@ use mathlib.Core.Bool.{true}
 use borrow.Author.Tests.{not-true, not-false}
 use Rattle.base.specs.Numbers.{upTo}
 use Rattle.base.specs.Lists.{all}
-use Rattle.validity.proofs.AllsLaws.{all-none, all-next, all-fail, all-done}
 use Rattle.store.specs.Valid.{recorderCross}
 use Rattle.validity.specs.RawHall.{raw}
+use Rattle.validity.proofs.AllsLaws.{all-none, all-next, all-fail, all-done}
 use Rattle.validity.proofs.recorders_cross.Statement.{statement}
 use Rattle.validity.proofs.recorders_cross.Tie as tie
 

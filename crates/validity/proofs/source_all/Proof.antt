@@ -5,14 +5,14 @@ use Prim.Native.Nat.{_-_, _≤_}
 use mathlib.Core.Path.{_≡_, sym, _∙_}
 use mathlib.Core.Bool.{true}
 use borrow.Author.Tests.{not-true, not-false}
+use lib.ListN.{getD}
 use Rattle.base.specs.Numbers.{upTo}
 use Rattle.base.specs.Lists.{all}
-use Rattle.validity.proofs.AllsLaws.{all-none, all-next, all-fail, all-done}
+use Rattle.model.specs.Hall.{maxRecorders}
 use Rattle.validity.specs.Marks.{sourceOk}
+use Rattle.validity.proofs.AllsLaws.{all-none, all-next, all-fail, all-done}
 use Rattle.validity.proofs.source_all.Statement.{statement}
 use Rattle.validity.proofs.source_all.Tie as tie
-use lib.ListN.{getD}
-use Rattle.model.specs.Hall.{maxRecorders}
 
 abbrev Inv-loop : tie.InvT-loop
 Inv-loop b at set j₀ j = (j ≤ maxRecorders) × (all (sourceOk b at (getD b 0 0) set) (upTo j) ≡ true)

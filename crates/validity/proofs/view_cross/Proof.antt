@@ -3,6 +3,7 @@ use denote.Ref.{now}
 use Prim.Native.Nat.{ℕ}
 use mathlib.Core.Path.{sym, ap, ap₂, _∙_}
 use mathlib.Core.Bool.{_&&_}
+use borrow.Author.Needs.{needs}
 use Rattle.base.specs.Numbers.{upTo}
 use Rattle.base.specs.Lists.{all}
 use Rattle.store.specs.Valid.{placeCross}
@@ -11,7 +12,6 @@ use Rattle.validity.specs.RawHall.{raw}
 use Rattle.validity.proofs.RawHallLaws.{raw-size}
 use Rattle.validity.proofs.view_cross.Statement.{statement}
 use Rattle.validity.proofs.view_cross.Tie as tie
-use borrow.Author.Needs.{needs}
 
 shared-slice-read-n : tie.Need-shared-slice-read-n
 shared-slice-read-n c = search needs

@@ -1,14 +1,14 @@
 -- The invariant: the views left give what all give. Assumes nothing.
 use borrow.Author.Needs.{needs}
 use denote.Ref.{now}
-use Prim.Native.Nat.{ℕ, _-_, _≤_}
+use Prim.Native.Nat.{_-_, _≤_}
 use mathlib.Core.Path.{_≡_, sym, ap, _∙_}
 use borrow.Author.Tests.{not-true, not-false}
 use Rattle.base.specs.Lists.{all}
 use Rattle.ranges.specs.TableParts.{viewNumbers}
-use Rattle.validity.proofs.AllsLaws.{viewsFrom, views-all, views-fail, views-next, views-none}
 use Rattle.validity.specs.RawHall.{raw}
 use Rattle.validity.specs.CrossParts.{viewCross}
+use Rattle.validity.proofs.AllsLaws.{viewsFrom, views-all, views-fail, views-next, views-none}
 use Rattle.validity.proofs.views_cross.Statement.{statement}
 use Rattle.validity.proofs.views_cross.Tie as tie
 
