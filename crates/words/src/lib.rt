@@ -3,6 +3,7 @@
 ghost use mathlib.Core.Path.{_≡_};
 ghost use Prim.Native.Nat.{_≤_};
 ghost use Rattle.base.specs.Chains.{refuse, _⨾_};
+ghost use Rattle.model.specs.Hall.{maxRecorders};
 ghost use Rattle.model.specs.Kinds.{lastKind, uses, wrongRecorder, strayWord, wrongNumber, wrongSet, inputRefusal};
 ghost use Rattle.words.specs.Words.{kindAt, useOf, usesOf};
 use model::kinds;
@@ -76,7 +77,7 @@ fn wrong_number(u: Use, w: u32) -> bool
 
 // 15: "the set of a new view is empty or names a recorder above N"
 fn wrong_set(n: u32, u: Use, w: u32) -> bool
-    requires { ⌜ n ≤ 8 ⌝ }
+    requires { ⌜ n ≤ maxRecorders ⌝ }
     ensures { λ x. ⌜ x ≡ wrongSet n (useOf u) w ⌝ }
 {
     match u {
@@ -101,7 +102,7 @@ fn first(a: u32, b: u32) -> u32
 
 // 12 to 15 of a kind, rising, in a hall of n recorders: each word is tested as the kind uses it.
 pub fn input_refusal(n: u32, k: u32, r: u32, a: u32, b: u32) -> u32
-    requires { ⌜ n ≤ 8 ⌝ }
+    requires { ⌜ n ≤ maxRecorders ⌝ }
     requires { ⌜ 1 ≤ k ⌝ }
     requires { ⌜ k ≤ lastKind ⌝ }
     ensures { λ x. ⌜ x ≡ inputRefusal n (kindAt k) r a b ⌝ }
