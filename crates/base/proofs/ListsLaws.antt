@@ -10,7 +10,7 @@ use lib.ListN.{length, getD}
 use borrow.Author.Tests.{eqb-true, eq-eqb, ltb-true, lt-ltb}
 use native.Mathlib.Omega.{arith}
 use mathlib.Core.Logic.{⊎-elim, _↔_, _⊎_, inl, inr}
-use Rattle.base.specs.Lists.{has, filter, rising, bit, count, all, place, rest, greatest, isEmpty}
+use Rattle.base.specs.Lists.{has, filter, rising, bit, count, all, nth, rest, greatest, isEmpty}
 use Rattle.base.proofs.Bools.{by-cases, or-cases, and-both, or-left, or-right, and-true}
 
 -- ## What a list has
@@ -68,7 +68,7 @@ has-right xs ys x t = has-append xs ys x ∙ or-right (has xs x) (has ys x) t
 pub has-either : (xs ys : List ℕ) (x : ℕ) → has (xs ++ ys) x ≡ true → (has xs x ≡ true) ⊎ (has ys x ≡ true)
 has-either xs ys x t = or-cases (has xs x) (has ys x) (sym (has-append xs ys x) ∙ t)
 
--- the element at place i, counted from 0, is there
+-- the element at index i, counted from 0, is there
 pub key-has : (ks : List ℕ) (i : ℕ) → i < length ks → has ks (getD ks i 0) ≡ true
 unfolding has
 key-has [] i h = absurd (not-suc-le-zero h)
@@ -211,7 +211,7 @@ append-none [] ys none = (refl, none)
 append-none (x ∷ xs) ys none = let n : _≡_ {A = ℕ} 0 1 = cc in absurd (omega arith)
 
 -- a list that is not empty is its first element and the rest
-pub head-rest : {A : Type 0} (xs : List A) (d : A) → isEmpty xs ≡ false → xs ≡ place xs 1 d ∷ rest xs
-unfolding isEmpty place rest
+pub head-rest : {A : Type 0} (xs : List A) (d : A) → isEmpty xs ≡ false → xs ≡ nth xs 1 d ∷ rest xs
+unfolding isEmpty nth rest
 head-rest [] d e = absurd (true≢false e)
 head-rest (x ∷ xs) d e = refl

@@ -1,4 +1,4 @@
--- Lists: what they have, which elements pass a test, the element at a place, rising lists, and one list that begins another.
+-- Lists: what they have, which elements pass a test, the element of a number, rising lists, and one list that begins another.
 -- Assumes nothing.
 use Prim.Native.Nat.{ℕ, _+_, _-_, max}
 use mathlib.Core.Path.{_≡_}
@@ -42,9 +42,9 @@ unfoldable pub greatest : (ℕ → ℕ) → List ℕ → ℕ
 greatest f [] = 0
 greatest f (x ∷ xs) = max (f x) (greatest f xs)
 
--- the element at place k, places counted from 1; d past the end
-unfoldable pub place : {A : Type 0} → List A → ℕ → A → A
-place xs k d = getD xs (k - 1) d
+-- element number k, counted from 1; d past the end
+unfoldable pub nth : {A : Type 0} → List A → ℕ → A → A
+nth xs k d = getD xs (k - 1) d
 
 -- the list without its first element
 unfoldable pub rest : {A : Type 0} → List A → List A

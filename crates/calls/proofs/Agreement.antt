@@ -126,7 +126,7 @@ module _ (b : List ℕ) (c : LentCall) (met : Leaves (stepLent b (c .words) (c .
       record {
         before = refl;
         taken = ne-eqb (c .number) 0 (λ e. ne (l .number ∙ sym (met .number) ∙ e));
-        after = met .hall ∙ sym (l .hall);
+        after = met .bytes ∙ sym (l .bytes);
       }
 
   -- a deliver that is accepted on a valid hall wrote the entry's sender and value
@@ -159,7 +159,7 @@ module _ (b : List ℕ) (c : LentCall) (met : Leaves (stepLent b (c .words) (c .
       inl (record {
         before = refl;
         taken = eq-eqb (c .number) 0 (met .number ∙ sym (l .number)) ∙ sym t;
-        after = met .hall ∙ sym (l .hall);
+        after = met .bytes ∙ sym (l .bytes);
         answer = λ h rest v e k y. deliver-answer room (met .answer ∙ sym (l .answer)) t h rest v e k;
       })))
       (λ t.

@@ -9,7 +9,7 @@ use borrow.Author.Tests.{ne-eqb, eqb-true, eqb-false, lt-ltb, le-ltb}
 use Rattle.base.specs.Chains.{refuse, _⨾_}
 use Rattle.base.proofs.Bools.{by-cases}
 use Rattle.model.specs.Hall.{Hall}
-use Rattle.model.specs.Kinds.{Kind, submit, label, sendEntry, sendSummary, form, enter, order, receive, notice, confirm, deliver, KindWord, kind, noKind, kindOf, inputRefusal}
+use Rattle.model.specs.Kinds.{Kind, submit, label, sendEntry, sendSummary, form, enter, place, receive, notice, confirm, deliver, KindWord, kind, noKind, kindOf, inputRefusal}
 use Rattle.model.specs.Answers.{Content, Answer, message, refused, Plain, plain}
 use Rattle.model.specs.Refusals.{stateRefusal, toReceive, toNotice}
 use Rattle.model.specs.Actions as actions
@@ -17,11 +17,13 @@ use Rattle.model.specs.Actions.{perform}
 use Rattle.model.specs.Opening.{Opening}
 use Rattle.model.specs.Page.{PageAnswer, plainPage}
 use Rattle.model.specs.Call.{Words, hl3, Stored, hall}
+use Rattle.model.specs.RunFile.{readFile, readAnswer, nextAt, Writing, writeFile}
 use Rattle.store.specs.StoredForm.{hallOf, isStored}
 use Rattle.calls.specs.Calls.{withHall, OpenOutcome, openOn, Outcome, stepOn, pageOn}
 use Rattle.calls.specs.ByKind.{kindOn, give}
 use Rattle.calls.specs.Kept.{Keeps, RefusedKeeps}
 use Rattle.calls.specs.Lent.{answerLength, withAnswer, Lent, lentNumber, lentCall, stepLent, pageLent, Leaves}
+use Rattle.calls.specs.RunsLent.{readWords, nextWords, writtenWords, runReadLent, runActionLent, runWriteLent}
 use Rattle.calls.proofs.ByKindLaws.{actOn, step-by-kind}
 use Rattle.calls.proofs.OpenLaws.{open-refused, open-taken}
 
@@ -32,14 +34,14 @@ message-number q (Content.entry v s p x) = refl
 message-number q (Content.summary k o c g) = refl
 
 performed : (h : Hall) (κ : Kind) (r a d : ℕ) → plain (perform hl3 h κ r a d .answer) .number ≡ 0
-unfolding perform plain actions.doSubmit actions.doLabel actions.doSendEntry actions.doSendSummary actions.doForm actions.doEnter actions.doOrder actions.doReceive actions.doNotice actions.doConfirm actions.doDeliver
+unfolding perform plain actions.doSubmit actions.doLabel actions.doSendEntry actions.doSendSummary actions.doForm actions.doEnter actions.doPlace actions.doReceive actions.doNotice actions.doConfirm actions.doDeliver
 performed h submit r a d = refl
 performed h label r a d = refl
 performed h sendEntry r a d = refl
 performed h sendSummary r a d = refl
 performed h form r a d = refl
 performed h enter r a d = refl
-performed h order r a d = refl
+performed h place r a d = refl
 performed h receive r a d = message-number (toReceive h r .source) (actions.contentOf h (h .service .current r) (toReceive h r))
 performed h notice r a d = message-number (toNotice h r .source) (actions.contentOf h (h .service .current r) (toNotice h r))
 performed h confirm r a d = refl
@@ -93,25 +95,25 @@ step-keeps b w = subst (KeepsBytes b) (sym (step-by-kind b w)) (by-kind (kindOf 
 
 module _ (x : Plain) (before next out : List ℕ) where
   after : ℕ → Lent
-  after why = elim (eqb why 0) [ true ↦ record { number = 0; hall = next; answer = withAnswer out (x .values) } | false ↦ record { number = why; hall = before; answer = out } ]
+  after why = elim (eqb why 0) [ true ↦ record { number = 0; bytes = next; answer = withAnswer out (x .values) } | false ↦ record { number = why; bytes = before; answer = out } ]
 
   is-after : (n : ℕ) → lentNumber (x .number) out ≡ n → lentCall x before next out ≡ after n
   unfolding lentCall after
   is-after n e = ap after e
 
-  leaves : (l : Lent) → lentCall x before next out ≡ l → Leaves (lentCall x before next out) (l .number) (l .hall) (l .answer)
-  leaves l e = subst (λ (z : Lent). Leaves z (l .number) (l .hall) (l .answer)) (sym e) (record { number = refl; hall = refl; answer = refl })
+  leaves : (l : Lent) → lentCall x before next out ≡ l → Leaves (lentCall x before next out) (l .number) (l .bytes) (l .answer)
+  leaves l e = subst (λ (z : Lent). Leaves z (l .number) (l .bytes) (l .answer)) (sym e) (record { number = refl; bytes = refl; answer = refl })
 
   pub lent-refused : (n : ℕ) → n ≡ x .number → (n ≡ 0 → ⊥) → Leaves (lentCall x before next out) n before out
   unfolding lentNumber _⨾_ after
   lent-refused n e ne =
-      leaves (record { number = n; hall = before; answer = out })
+      leaves (record { number = n; bytes = before; answer = out })
       (is-after n (ap (λ m. m ⨾ refuse (ltb (length out) answerLength) 18) (sym e) ∙ rw (ne-eqb n 0 ne, _⨾_) refl) ∙ rw (ne-eqb n 0 ne, after) refl)
 
   pub lent-short : x .number ≡ 0 → length out < answerLength → Leaves (lentCall x before next out) 18 before out
   unfolding lentNumber _⨾_ after refuse
   lent-short e l =
-      leaves (record { number = 18; hall = before; answer = out })
+      leaves (record { number = 18; bytes = before; answer = out })
       (is-after 18 (ap₂ (λ (m : ℕ) (t : Bool). m ⨾ refuse t 18) e (lt-ltb _ _ l)))
 
   -- the number, tried without a room for the answer
@@ -125,23 +127,23 @@ module _ (x : Plain) (before next out : List ℕ) where
   pub lent-done : x .number ≡ 0 → answerLength ≤ length out → Leaves (lentCall x before next out) 0 next (withAnswer out (x .values))
   unfolding lentNumber _⨾_ after refuse
   lent-done e l =
-      leaves (record { number = 0; hall = next; answer = withAnswer out (x .values) })
+      leaves (record { number = 0; bytes = next; answer = withAnswer out (x .values) })
       (is-after 0 (ap₂ (λ (m : ℕ) (t : Bool). m ⨾ refuse t 18) e (le-ltb _ _ l)))
 
 -- ## No refused call changes a byte
 
 -- a call into a lent slice leaves both slices, or returns 0
 lent-keeps : (x : Plain) (before next out : List ℕ)
-    → Keeps (lentCall x before next out .number) before (lentCall x before next out .hall)
+    → Keeps (lentCall x before next out .number) before (lentCall x before next out .bytes)
     × Keeps (lentCall x before next out .number) out (lentCall x before next out .answer)
 unfolding lentCall
 lent-keeps x before next out = go (eqb (lentNumber (x .number) out) 0) refl
   where
     after : Bool → Lent
-    after t = elim t [ true ↦ record { number = 0; hall = next; answer = withAnswer out (x .values) } | false ↦ record { number = lentNumber (x .number) out; hall = before; answer = out } ]
+    after t = elim t [ true ↦ record { number = 0; bytes = next; answer = withAnswer out (x .values) } | false ↦ record { number = lentNumber (x .number) out; bytes = before; answer = out } ]
 
     go : (t : Bool) → eqb (lentNumber (x .number) out) 0 ≡ t
-        → Keeps (after t .number) before (after t .hall) × Keeps (after t .number) out (after t .answer)
+        → Keeps (after t .number) before (after t .bytes) × Keeps (after t .number) out (after t .answer)
     go true e = (λ ne. absurd (ne refl), λ ne. absurd (ne refl))
     go false e = (λ ne. refl, λ ne. refl)
 
@@ -149,25 +151,32 @@ open-keeps : (b : List ℕ) (o : Opening) → Keeps (openOn b o .number) b (open
 open-keeps b o ne =
     open-refused b o (λ z. ne (open-taken b o z .0)) .1
 
-page-hall : (x : Plain) (b out : List ℕ) → lentCall x b b out .hall ≡ b
+-- a call that only reads its first slice
+only-read : (x : Plain) (b out : List ℕ) → lentCall x b b out .bytes ≡ b
 unfolding lentCall
-page-hall x b out = go (eqb (lentNumber (x .number) out) 0)
+only-read x b out = go (eqb (lentNumber (x .number) out) 0)
   where
     after : Bool → Lent
-    after t = elim t [ true ↦ record { number = 0; hall = b; answer = withAnswer out (x .values) } | false ↦ record { number = lentNumber (x .number) out; hall = b; answer = out } ]
+    after t = elim t [ true ↦ record { number = 0; bytes = b; answer = withAnswer out (x .values) } | false ↦ record { number = lentNumber (x .number) out; bytes = b; answer = out } ]
 
-    go : (t : Bool) → after t .hall ≡ b
+    go : (t : Bool) → after t .bytes ≡ b
     go true = refl
     go false = refl
 
 pub refused-keeps : RefusedKeeps
-unfolding stepLent pageLent
+unfolding stepLent pageLent runReadLent runActionLent runWriteLent
 refused-keeps =
     record {
       opening = open-keeps;
       step = step-keeps;
       stepHall = λ b w out. lent-keeps (plain (stepOn b w .answer)) b (stepOn b w .bytes) out .0;
       stepAnswer = λ b w out. lent-keeps (plain (stepOn b w .answer)) b (stepOn b w .bytes) out .1;
-      pageHall = λ b r k out. page-hall (plainPage (pageOn b r k)) b out;
+      pageHall = λ b r k out. only-read (plainPage (pageOn b r k)) b out;
       pageAnswer = λ b r k out. lent-keeps (plainPage (pageOn b r k)) b b out .1;
+      runReadFile = λ f out. only-read (readWords (readAnswer f (readFile f))) f out;
+      runReadAnswer = λ f out. lent-keeps (readWords (readAnswer f (readFile f))) f f out .1;
+      runActionFile = λ f at out. only-read (nextWords (nextAt f at)) f out;
+      runActionAnswer = λ f at out. lent-keeps (nextWords (nextAt f at)) f f out .1;
+      runWriteFile = λ f x out. lent-keeps (writtenWords (writeFile x f .answer)) f (writeFile x f .bytes) out .0;
+      runWriteAnswer = λ f x out. lent-keeps (writtenWords (writeFile x f .answer)) f (writeFile x f .bytes) out .1;
     }

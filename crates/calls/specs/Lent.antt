@@ -31,23 +31,27 @@ answerBytes vs = wordsBytes vs ++ zeros (answerLength - 4 * length vs)
 unfoldable pub withAnswer : List ℕ → List ℕ → List ℕ
 withAnswer out vs = sets out 0 (answerBytes vs)
 
--- what a call leaves: the number that it returns, the hall's slice and the answer's
+-- what a call leaves: the number that it returns, the bytes lent to it, a hall's or a run file's, and the answer's slice
 pub record Lent : Type 0 where
   pub number : ℕ
-  pub hall : List ℕ
+  pub bytes : List ℕ
   pub answer : List ℕ
+
+-- the plain answer of a call that is taken
+abbrev pub taken : List ℕ → Plain
+taken vs = record { number = 0; values = vs }
 
 -- "18: the slice to .. write into is too short", last
 unfoldable pub lentNumber : ℕ → List ℕ → ℕ
 lentNumber why out = why ⨾ refuse (ltb (length out) answerLength) 18
 
--- a call with the plain answer x that leaves the hall's slice as `next`: "all lent bytes keep their contents" if refused
+-- a call with the plain answer x that leaves the lent bytes as `next`: "all lent bytes keep their contents" if refused
 unfoldable pub lentCall : Plain → List ℕ → List ℕ → List ℕ → Lent
-lentCall x hall next out =
+lentCall x bytes next out =
     let why = lentNumber (x .number) out in
     elim (eqb why 0) [
-      | true ↦ record { number = 0; hall = next; answer = withAnswer out (x .values) }
-      | false ↦ record { number = why; hall = hall; answer = out }
+      | true ↦ record { number = 0; bytes = next; answer = withAnswer out (x .values) }
+      | false ↦ record { number = why; bytes = bytes; answer = out }
     ]
 
 -- a step
@@ -58,8 +62,8 @@ stepLent hall w out = let o = stepOn hall w in lentCall (plain (o .answer)) hall
 unfoldable pub pageLent : List ℕ → ℕ → ℕ → List ℕ → Lent
 pageLent hall r k out = lentCall (plainPage (pageOn hall r k)) hall hall out
 
--- What a call returns and leaves, number n and slices h and x, is what the definition says.
-pub record Leaves (l : Lent) (n : ℕ) (h x : List ℕ) : Type 0 where
+-- What a call returns and leaves, number n and slices b and x, is what the definition says.
+pub record Leaves (l : Lent) (n : ℕ) (b x : List ℕ) : Type 0 where
   pub number : n ≡ l .number
-  pub hall : h ≡ l .hall
+  pub bytes : b ≡ l .bytes
   pub answer : x ≡ l .answer

@@ -2,6 +2,7 @@ pub mod Calls
 pub mod ByKind
 pub mod Steps
 pub mod Lent
+pub mod RunsLent
 pub mod Histories
 pub mod Kept
 pub mod WrongPrograms

@@ -1,5 +1,4 @@
 pub mod Submitting
-pub mod Lists
 pub mod Searching
 pub mod Numbers
 pub mod AtMarks

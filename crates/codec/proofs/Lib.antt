@@ -9,3 +9,5 @@ pub mod BytesLaws
 pub mod CellsLaws
 pub mod Piece
 pub mod SliceLaws
+pub mod EndsLaws
+pub mod FlagsLaws

@@ -9,7 +9,7 @@ use lib.ListN.{length, getD, set, length-append, length-map}
 use borrow.Author.Tests.{eqb-true, eq-eqb, ne-eqb, eqb-false}
 use Rattle.base.specs.Lists.{has, Each}
 use Rattle.base.proofs.Bools.{by-cases}
-use Rattle.codec.specs.Table.{place, lookup, Tabled, table, flags}
+use Rattle.codec.specs.Table.{indexOf, lookup, Tabled, table, flags}
 use Rattle.base.proofs.ListsLaws.{key-has}
 use native.Mathlib.Omega.{arith}
 unfoldable pub use Rattle.base.specs.Lists.{has}
@@ -35,11 +35,11 @@ Distinct (y ∷ ys) = (has ys y ≡ false) × Distinct ys
 apart : (ks : List ℕ) (j k : ℕ) → has ks j ≡ true → has ks k ≡ false → eqb j k ≡ false
 apart ks j k h n = ne-eqb j k (λ e. true≢false (sym h ∙ ap (has ks) e ∙ n))
 
-pub place-lt : (ks : List ℕ) (j : ℕ) → has ks j ≡ true → place ks j < length ks
-unfolding has place
-place-lt [] j h = absurd (false≢true h)
-place-lt (y ∷ ys) j h =
-    by-cases (eqb j y) (λ e. rw e (omega arith)) (λ e. rw e (suc-le-suc (place-lt ys j (rw (e, has) at h))))
+pub index-lt : (ks : List ℕ) (j : ℕ) → has ks j ≡ true → indexOf ks j < length ks
+unfolding has indexOf
+index-lt [] j h = absurd (false≢true h)
+index-lt (y ∷ ys) j h =
+    by-cases (eqb j y) (λ e. rw e (omega arith)) (λ e. rw e (suc-le-suc (index-lt ys j (rw (e, has) at h))))
 
 module _ {A : Type 0} where
   -- a function is looked up in its table, where it has the default outside the keys
@@ -76,27 +76,27 @@ module _ {A : Type 0} where
       (map-agree ys (lookup (y ∷ ys) d (x ∷ xs)) (lookup ys d xs) (λ k n. rw (apart ys k y n (u .0)))
       ∙ map-lookup ys d xs (u .1) (suc-inj l))
 
-  -- the table has f's value at each key's place
-  pub getD-map : (ks : List ℕ) (f : ℕ → A) (j : ℕ) (d : A) → has ks j ≡ true → getD (map f ks) (place ks j) d ≡ f j
-  unfolding has place
+  -- the table has f's value at each key's index
+  pub getD-map : (ks : List ℕ) (f : ℕ → A) (j : ℕ) (d : A) → has ks j ≡ true → getD (map f ks) (indexOf ks j) d ≡ f j
+  unfolding has indexOf
   getD-map [] f j d h = absurd (false≢true h)
   getD-map (y ∷ ys) f j d h =
       by-cases (eqb j y) (λ e. rw e (ap f (sym (eqb-true j y e)))) (λ e. rw e (getD-map ys f j d (rw (e, has) at h)))
 
-  -- to change f at a key is to set the table at its place
-  pub map-upd : (ks : List ℕ) (f : ℕ → A) (j : ℕ) (x : A) → Distinct ks → has ks j ≡ true → map (upd f j x) ks ≡ set (map f ks) (place ks j) x
-  unfolding has place upd
+  -- to change f at a key is to set the table at its index
+  pub map-upd : (ks : List ℕ) (f : ℕ → A) (j : ℕ) (x : A) → Distinct ks → has ks j ≡ true → map (upd f j x) ks ≡ set (map f ks) (indexOf ks j) x
+  unfolding has indexOf upd
   map-upd [] f j x u h = absurd (false≢true h)
   map-upd (y ∷ ys) f j x u h = by-cases (eqb j y) here (there (map-upd ys f j x (u .1)))
     where
-      here : eqb j y ≡ true → map (upd f j x) (y ∷ ys) ≡ set (map f (y ∷ ys)) (place (y ∷ ys) j) x
+      here : eqb j y ≡ true → map (upd f j x) (y ∷ ys) ≡ set (map f (y ∷ ys)) (indexOf (y ∷ ys) j) x
       here e =
           let q = eqb-true j y e in
           rw (e, eq-eqb y j (sym q), upd)
           (ap (λ (z : List A). x ∷ z) (map-agree ys (upd f j x) f (λ k n. rw (apart ys k j n (ap (has ys) q ∙ u .0), upd))))
 
-      there : (has ys j ≡ true → map (upd f j x) ys ≡ set (map f ys) (place ys j) x)
-          → eqb j y ≡ false → map (upd f j x) (y ∷ ys) ≡ set (map f (y ∷ ys)) (place (y ∷ ys) j) x
+      there : (has ys j ≡ true → map (upd f j x) ys ≡ set (map f ys) (indexOf ys j) x)
+          → eqb j y ≡ false → map (upd f j x) (y ∷ ys) ≡ set (map f (y ∷ ys)) (indexOf (y ∷ ys) j) x
       there r e =
           rw (e, ne-eqb y j (λ q. eqb-false j y e (sym q)), upd)
           (ap (λ (z : List A). f y ∷ z) (r (rw (e, has) at h)))
@@ -133,15 +133,15 @@ module _ {A : Type 0} {k : ℕ} (F : Form A k) (ks : List ℕ) (n : ℕ) (d : A)
       table-lawful h =
           mapped-lawful (cells F (length ks) n) (lookup ks d) (λ f. map f ks) (Tabled F ks n d) (cells-lawful F L (length ks) n h) tables
 
-      -- the value at a key stands at the key's place
-      pub at-key : (j : ℕ) → has ks j ≡ true → Piece (table F ks n d) F (place ks j * k) (λ f. Unit {0}) (λ f. f j) (λ f x. upd f j x)
+      -- the value at a key stands at the key's index
+      pub at-key : (j : ℕ) → has ks j ≡ true → Piece (table F ks n d) F (indexOf ks j * k) (λ f. Unit {0}) (λ f. f j) (λ f x. upd f j x)
       unfolding table upd mapped
       at-key j h =
           restated
-          (mapped-piece (lookup ks d) (λ f. map f ks) (Tabled F ks n d) tables (cell F L (length ks) n (place ks j) d (place-lt ks j h)))
+          (mapped-piece (lookup ks d) (λ f. map f ks) (Tabled F ks n d) tables (cell F L (length ks) n (indexOf ks j) d (index-lt ks j h)))
           (λ f. Unit {0}) (λ f. f j) (λ f x. upd f j x) (λ f o t. t) (λ f t q. getD-map ks f j d h) changed
         where
-          changed : (f : ℕ → A) (x : A) → Tabled F ks n d f → Unit {0} → F .ok x → lookup ks d (set (map f ks) (place ks j) x) ≡ upd f j x
+          changed : (f : ℕ → A) (x : A) → Tabled F ks n d f → Unit {0} → F .ok x → lookup ks d (set (map f ks) (indexOf ks j) x) ≡ upd f j x
           changed f x t q o =
               ap (lookup ks d) (sym (map-upd ks f j x u h))
               ∙ fun-ext (λ i. lookup-map ks d (upd f j x) i (λ m. rw (not-key i m, upd) (t .outside i m)))
@@ -169,20 +169,20 @@ table-agree {A} {k} F G ks n d f h =
     same [] a = encodeAll-nil F ∙ sym (encodeAll-nil G)
     same (x ∷ xs) a = encodeAll-cons F x xs ∙ ap₂ _++_ (a .0) (same xs (a .1)) ∙ sym (encodeAll-cons G x xs)
 
-pub place-numbers : (s n j : ℕ) → s ≤ j → j < s + n → place (numbers s n) j ≡ j - s
-unfolding place numbers
-place-numbers s zero j h l = omega arith
-place-numbers s (suc n) j h l =
-    by-cases (eqb j s) (λ e. rw e (zero-place (eqb-true j s e)))
-    (λ e. rw e (next (eqb-false j s e) (place-numbers (suc s) n j (more (eqb-false j s e)) (omega arith))))
+pub index-numbers : (s n j : ℕ) → s ≤ j → j < s + n → indexOf (numbers s n) j ≡ j - s
+unfolding indexOf numbers
+index-numbers s zero j h l = omega arith
+index-numbers s (suc n) j h l =
+    by-cases (eqb j s) (λ e. rw e (zero-index (eqb-true j s e)))
+    (λ e. rw e (next (eqb-false j s e) (index-numbers (suc s) n j (more (eqb-false j s e)) (omega arith))))
   where
-    zero-place : j ≡ s → 0 ≡ j - s
-    zero-place e = omega arith
+    zero-index : j ≡ s → 0 ≡ j - s
+    zero-index e = omega arith
 
     more : (j ≡ s → ⊥) → suc s ≤ j
     more ne = omega arith
 
-    next : (j ≡ s → ⊥) → place (numbers (suc s) n) j ≡ j - suc s → suc (place (numbers (suc s) n) j) ≡ j - s
+    next : (j ≡ s → ⊥) → indexOf (numbers (suc s) n) j ≡ j - suc s → suc (indexOf (numbers (suc s) n) j) ≡ j - s
     next ne r = omega arith
 
 -- rising keys are distinct
@@ -214,27 +214,27 @@ pub flags-lawful : (n : ℕ) → Lawful (flags n)
 unfolding flags
 flags-lawful n = table-lawful flag (numbers 1 n) n false (numbers-distinct n) flag-lawful (le-of-eq (length-numbers 1 n))
 
--- and its place is i, each key standing once
-pub key-place : (ks : List ℕ) (i : ℕ) → Distinct ks → i < length ks → place ks (getD ks i 0) ≡ i
-unfolding place
-key-place [] i d h = absurd (not-suc-le-zero h)
-key-place (k ∷ ks) zero d h = rw (eq-eqb k k refl, place) refl
-key-place (k ∷ ks) (suc i) d h =
+-- and its index is i, each key standing once
+pub key-index : (ks : List ℕ) (i : ℕ) → Distinct ks → i < length ks → indexOf ks (getD ks i 0) ≡ i
+unfolding indexOf
+key-index [] i d h = absurd (not-suc-le-zero h)
+key-index (k ∷ ks) zero d h = rw (eq-eqb k k refl, indexOf) refl
+key-index (k ∷ ks) (suc i) d h =
     let l = le-of-suc-le-suc h in
     let n : eqb (getD ks i 0) k ≡ false =
     ne-eqb (getD ks i 0) k (λ e. true≢false (sym (sym (ap (has ks) e) ∙ key-has ks i l) ∙ d .0)) in
-    rw (n, place) (ap suc (key-place ks i (d .1) l))
+    rw (n, indexOf) (ap suc (key-index ks i (d .1) l))
 
--- the key at a key's place
-pub place-key : (ks : List ℕ) (j : ℕ) → has ks j ≡ true → getD ks (place ks j) 0 ≡ j
-unfolding has place
-place-key [] j h = absurd (false≢true h)
-place-key (k ∷ ks) j h =
-    by-cases (eqb j k) (λ e. rw (e, place) (sym (eqb-true j k e))) (λ e. rw (e, place) (place-key ks j (rw (e, has) at h)))
+-- the key at a key's index
+pub index-key : (ks : List ℕ) (j : ℕ) → has ks j ≡ true → getD ks (indexOf ks j) 0 ≡ j
+unfolding has indexOf
+index-key [] j h = absurd (false≢true h)
+index-key (k ∷ ks) j h =
+    by-cases (eqb j k) (λ e. rw (e, indexOf) (sym (eqb-true j k e))) (λ e. rw (e, indexOf) (index-key ks j (rw (e, has) at h)))
 
--- a key that is missing has the place past the last
-pub place-missing : (ks : List ℕ) (j : ℕ) → has ks j ≡ false → place ks j ≡ length ks
-unfolding has place
-place-missing [] j h = refl
-place-missing (k ∷ ks) j h =
-    by-cases (eqb j k) (λ e. absurd (true≢false (rw (e, has) at h))) (λ e. rw (e, place) (ap suc (place-missing ks j (rw (e, has) at h))))
+-- a key that is missing has the index past the last
+pub index-missing : (ks : List ℕ) (j : ℕ) → has ks j ≡ false → indexOf ks j ≡ length ks
+unfolding has indexOf
+index-missing [] j h = refl
+index-missing (k ∷ ks) j h =
+    by-cases (eqb j k) (λ e. absurd (true≢false (rw (e, has) at h))) (λ e. rw (e, indexOf) (ap suc (index-missing ks j (rw (e, has) at h))))

@@ -7,3 +7,5 @@ pub mod Bounded
 pub mod Table
 pub mod ByteList
 pub mod Slice
+pub mod Ends
+pub mod Flags

@@ -13,10 +13,10 @@ use Rattle.base.specs.Lists.{Each}
 use Rattle.codec.specs.Cells.{cells}
 use Rattle.base.specs.Numbers.{numbers}
 
--- the place of k among the keys
-unfoldable pub place : List ℕ → ℕ → ℕ
-place [] k = 0
-place (y ∷ ys) k = cond (eqb k y) 0 (suc (place ys k))
+-- the index of k among the keys, their number if it is none
+unfoldable pub indexOf : List ℕ → ℕ → ℕ
+indexOf [] k = 0
+indexOf (y ∷ ys) k = cond (eqb k y) 0 (suc (indexOf ys k))
 
 module _ {A : Type 0} where
   -- the value that the table xs has at k

@@ -1,14 +1,43 @@
 // Stored forms (specs/): numbers, flags, bounded lists, pairs, cells, tables, each with its laws; and the code
-// that gets and puts bytes, words and byte lists at an offset of a byte slice.
+// that gets and puts bytes, words and byte lists at an offset of a byte slice, and that reads and changes byte lists
+// and rows of flags by value.
 // These functions are for the crates of this repository: a `requires` is met by each caller's proof.
 ghost use mathlib.Core.Path.{_≡_};
+ghost use mathlib.Core.Bool.{true, _&&_, _||_};
+ghost use mathlib.Core.List.{[], _∷_, _++_};
 ghost use Prim.Native.Nat.{_+_, _-_, _≤_, _<_};
-ghost use lib.ListN.{length, getD, take};
+ghost use lib.ListN.{length, getD, take, drop};
 ghost use lib.Seq.{sets};
+ghost use Rattle.base.specs.Lists.{bit, has, countOf, nth};
+ghost use Rattle.base.specs.Numbers.{upTo};
+ghost use Rattle.base.specs.Update.{upd};
 ghost use Rattle.codec.specs.Bytes.{part, zeros, allZero};
 ghost use Rattle.codec.specs.Number.{digits, value, byte};
 ghost use Rattle.codec.specs.Bounded.{bounded};
 ghost use Rattle.codec.specs.ByteList.{items, listAt, listBytes, allIn, listCapacity};
+ghost use Rattle.codec.specs.Ends.{firstOf, foundOf};
+ghost use Rattle.codec.specs.Flags.{setOf};
+
+// Do both hold? Both are looked at, and there is no branch: for loops that gather.
+pub fn both(a: bool, b: bool) -> bool
+    ensures { λ r. ⌜ r ≡ (a && b) ⌝ }
+{
+    a & b
+}
+
+// Does one of two hold? Both are looked at, and there is no branch.
+pub fn or(a: bool, b: bool) -> bool
+    ensures { λ r. ⌜ r ≡ (a || b) ⌝ }
+{
+    a | b
+}
+
+// A flag's byte: 1 or 0.
+pub fn flag_byte(t: bool) -> u8
+    ensures { λ r. ⌜ r ≡ bit t ⌝ }
+{
+    t as u8
+}
 
 // The byte at an offset.
 pub fn get_byte(b: &[u8], at: usize) -> u8
@@ -125,7 +154,8 @@ impl ByteList {
 
 // The byte list at an offset.
 pub fn get_list(b: &[u8], at: usize) -> ByteList
-    requires { ⌜ (at < length (now b)) × ((getD (now b) at 0 ≤ listCapacity) × (at + 1 + getD (now b) at 0 ≤ length (now b))) ⌝ }
+    requires { ⌜ (at < length (now b)) × ((getD (now b) at 0 ≤ listCapacity)
+        × (at + 1 + getD (now b) at 0 ≤ length (now b))) ⌝ }
     ensures { λ r. ⌜ (r .len ≡ getD (now (b .entry)) at 0) × (items r ≡ listAt (now (b .entry)) at) ⌝ }
 {
     let n = b[at] as usize;
@@ -168,4 +198,113 @@ pub fn valid_list(b: &[u8], at: usize, cap: usize, lo: u8, hi: u8) -> bool
     } else {
         false
     }
+}
+
+// How many bytes a list has.
+pub fn list_len(l: ByteList) -> u32
+    requires { ⌜ l .len ≤ listCapacity ⌝ }
+    ensures { λ r. ⌜ (r ≡ length (items l)) × (r ≡ l .len) ⌝ }
+{
+    l.len as u32
+}
+
+// Byte number k of a list, counted from 1.
+pub fn byte_at(l: ByteList, k: usize) -> u8
+    requires { ⌜ (1 ≤ k) × (k ≤ l .len) × (l .len ≤ listCapacity) ⌝ }
+    ensures { λ r. ⌜ r ≡ nth (items l) k 0 ⌝ }
+{
+    l.places[k - 1]
+}
+
+// Has a list a byte?
+pub fn has_byte(l: ByteList, x: u8) -> bool
+    requires { ⌜ l .len ≤ listCapacity ⌝ }
+    ensures { λ r. ⌜ r ≡ has (items l) x ⌝ }
+{
+    let n = l.len;
+    let places = l.places;
+    let mut i = 0;
+    while i < n {
+        if places[i] == x {
+            return true;
+        }
+        i += 1;
+    }
+    false
+}
+
+// The first of some numbers: "nothing waits" is Nothing.
+pub enum Waiting {
+    Found(u8),
+    Nothing,
+}
+
+// The first byte of a list.
+pub fn first_of(l: ByteList) -> Waiting
+    requires { ⌜ l .len ≤ listCapacity ⌝ }
+    ensures { λ r. ⌜ foundOf r ≡ firstOf (items l) ⌝ }
+{
+    if l.len == 0 {
+        return Waiting::Nothing;
+    }
+    let x = l.places[0];
+    Waiting::Found(x)
+}
+
+// A list without its first byte.
+pub fn pop(l: ByteList) -> ByteList
+    requires { ⌜ (0 < l .len) × (l .len ≤ listCapacity) ⌝ }
+    ensures { λ r. ⌜ (r .len ≡ l .len - 1) × (items r ≡ drop 1 (items l)) ⌝ }
+{
+    let n = l.len - 1;
+    let old = l.places;
+    let mut places = l.places;
+    let mut i = 0;
+    while i < n {
+        places[i] = old[i + 1];
+        i += 1;
+    }
+    ByteList { places, len: n }
+}
+
+// A list with one byte more, at the end.
+pub fn push(l: ByteList, x: u8) -> ByteList
+    requires { ⌜ l .len < listCapacity ⌝ }
+    ensures { λ r. ⌜ (r .len ≡ l .len + 1) × (items r ≡ items l ++ (x ∷ [])) ⌝ }
+{
+    let n = l.len;
+    let mut places = l.places;
+    places[n] = x;
+    ByteList { places, len: n + 1 }
+}
+
+// Is e, from 1 on, in the set that a row of flags means?
+pub fn has_flag(row: &[u8], e: usize) -> bool
+    requires { ⌜ (1 ≤ e) × (e ≤ length (now row)) ⌝ }
+    ensures { λ r. ⌜ r ≡ setOf (now (row .entry)) e ⌝ }
+{
+    1 == row[e - 1]
+}
+
+// Puts e, from 1 on, into the set that a row of flags means.
+pub fn set_flag(row: &mut [u8], e: usize)
+    requires { ⌜ (1 ≤ e) × (e ≤ length (now row)) ⌝ }
+    ensures { λ _. ⌜ setOf (now (row .exit)) ≡ upd (setOf (now (row .entry))) e true ⌝ }
+{
+    row[e - 1] = 1;
+}
+
+// How many of the numbers 1 to n are in the set that a row of flags means.
+pub fn count_flags(row: &[u8], n: usize) -> usize
+    requires { ⌜ n ≤ length (now row) ⌝ }
+    ensures { λ r. ⌜ r ≡ countOf (setOf (now (row .entry))) (upTo n) ⌝ }
+    ensures small { λ r. ⌜ r ≤ n ⌝ }
+{
+    let mut sum = 0;
+    let mut i = 0;
+    while i < n {
+        i += 1;
+        sum += has_flag(row, i) as usize;
+    }
+    sum
 }

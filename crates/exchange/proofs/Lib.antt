@@ -4,3 +4,4 @@ pub mod Lists
 pub mod SourcesLaws
 pub mod LabelsLaws
 pub mod RowsLaws
+pub mod MembersLaws

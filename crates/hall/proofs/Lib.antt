@@ -5,3 +5,4 @@ pub mod Changing
 pub mod ActsLaws
 pub mod Acting
 pub mod Changes
+pub mod ViewsLaws

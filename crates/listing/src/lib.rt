@@ -6,7 +6,8 @@ ghost use Rattle.model.specs.Answers.{message};
 ghost use Rattle.model.specs.Listing.{decimal, line, actionLine, endLine, refusedLine, hall-word};
 ghost use Rattle.answer.specs.Meaning.{meaning, contentMeaning};
 ghost use Rattle.text.specs.Text.{Room, Wrote, Sized};
-ghost use Rattle.listing.specs.Lines.{answerText, entryText, summaryText, sentText, refusalText, kindOnly, maxAnswer, maxLine};
+ghost use Rattle.listing.specs.Lines.{answerText, entryText, summaryText, sentText, refusalText};
+ghost use Rattle.listing.specs.Lines.{kindOnly, maxAnswer, maxLine};
 use answer::Answer;
 use answer::Content;
 use answer::EntryPart;
@@ -17,7 +18,8 @@ use answer::SummaryCounts;
 // "`entry` gives view.sequence.sender and value"
 fn put_entry(out: &mut [u8], at: usize, e: EntryPart) -> usize
     requires { ⌜ Room (now out) at (entryText (e .view) (e .seq) (e .sender) (payloadMeaning (e .payload))) ⌝ }
-    ensures { λ r. ⌜ Wrote (now (out .entry)) at (entryText (e .view) (e .seq) (e .sender) (payloadMeaning (e .payload))) (now (out .exit)) r ⌝ }
+    ensures { λ r. ⌜ Wrote (now (out .entry)) at
+        (entryText (e .view) (e .seq) (e .sender) (payloadMeaning (e .payload))) (now (out .exit)) r ⌝ }
 {
     let a = text::put_field(out, at, b"entry");
     let b = text::put_label(out, a, e.view, e.seq, e.sender);
@@ -27,7 +29,8 @@ fn put_entry(out: &mut [u8], at: usize, e: EntryPart) -> usize
 // "`summary` gives source, known count, order length, confirm mark, highest primary"
 fn put_summary(out: &mut [u8], at: usize, source: u32, s: SummaryCounts) -> usize
     requires { ⌜ Room (now out) at (summaryText source (s .known) (s .order) (s .confirm) (s .high)) ⌝ }
-    ensures { λ r. ⌜ Wrote (now (out .entry)) at (summaryText source (s .known) (s .order) (s .confirm) (s .high)) (now (out .exit)) r ⌝ }
+    ensures { λ r. ⌜ Wrote (now (out .entry)) at (summaryText source (s .known) (s .order) (s .confirm) (s .high))
+        (now (out .exit)) r ⌝ }
 {
     let a = text::put_field(out, at, b"summary");
     let b = text::put_number(out, a, source);
@@ -38,7 +41,8 @@ fn put_summary(out: &mut [u8], at: usize, source: u32, s: SummaryCounts) -> usiz
 
 fn put_message(out: &mut [u8], at: usize, m: Message) -> usize
     requires { ⌜ Room (now out) at (answerText (message (m .source) (contentMeaning (m .content)))) ⌝ }
-    ensures { λ r. ⌜ Wrote (now (out .entry)) at (answerText (message (m .source) (contentMeaning (m .content)))) (now (out .exit)) r ⌝ }
+    ensures { λ r. ⌜ Wrote (now (out .entry)) at (answerText (message (m .source) (contentMeaning (m .content))))
+        (now (out .exit)) r ⌝ }
 {
     let source = m.source;
     let content = m.content;
@@ -51,7 +55,8 @@ fn put_message(out: &mut [u8], at: usize, m: Message) -> usize
 // "`from`, for a deliver, gives sender and value"
 fn put_sent(out: &mut [u8], at: usize, s: Sent) -> usize
     requires { ⌜ Room (now out) at (sentText (s .sender) (payloadMeaning (s .payload))) ⌝ }
-    ensures { λ r. ⌜ Wrote (now (out .entry)) at (sentText (s .sender) (payloadMeaning (s .payload))) (now (out .exit)) r ⌝ }
+    ensures { λ r. ⌜ Wrote (now (out .entry)) at (sentText (s .sender) (payloadMeaning (s .payload)))
+        (now (out .exit)) r ⌝ }
 {
     let next = text::put_field(out, at, b"from");
     text::put_last_two(out, next, s.sender, s.payload.value)

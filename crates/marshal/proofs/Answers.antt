@@ -7,14 +7,13 @@ use mathlib.Core.List.{List, [], _++_, append-nil}
 use lib.ListN.{length, take, drop, drop-of-length-le}
 use lib.Seq.{sets, sets-eq, length-take-le}
 use Rattle.model.specs.Hall.{Hall}
-use Rattle.model.specs.Answers.{Content, Answer, message, refused, Plain, plain}
+use Rattle.model.specs.Answers.{Content, Answer, message, refused, plain}
 use Rattle.model.specs.Page.{PageAnswer, plainPage}
 use Rattle.model.specs.Call.{Words, hl3, Stored, hall, broken, call}
 use Rattle.store.specs.Layout.{storedLength}
 use Rattle.store.specs.StoredForm.{hallOf, isStored}
 use Rattle.store.proofs.StoredFormLaws.{isStored-first, hallOf-first}
 use Rattle.calls.specs.Calls.{held, Outcome, stepOn}
-use Rattle.calls.specs.Lent.{Lent}
 
 -- the answer goes by the first bytes alone, as many as the stored length
 pub answer-first : (b : List ℕ) (w : Words) → storedLength ≤ length b → stepOn (take storedLength b) w .answer ≡ stepOn b w .answer

@@ -1,3 +1,1 @@
-pub mod MembersLaws
 pub mod ContentsLaws
-pub mod CurrentLaws

@@ -1,4 +1,4 @@
--- A number and the kind that it names: what is computed of each place of the list of kinds holds of each number, and past
+-- A number and the kind that it names: what is computed of each number of the list of kinds holds of each number, and past
 -- the last kind there is none. Assumes nothing.
 use Prim.Native.Nat.{ℕ, zero, suc, _+_, _-_, _≤_, _<_}
 use native.Mathlib.Omega.{arith}
@@ -12,27 +12,27 @@ use borrow.Author.Tests.{ne-eqb, leb-true, leb-false}
 use Rattle.base.proofs.Bools.{true-or-false, not-both, and-both}
 use Rattle.model.specs.Kinds.{Kind, KindWord, kind, noKind, kinds, lastKind, kindOf}
 
--- does t hold of each place and what stands there, places counted from i?
-unfoldable pub places : (ℕ → KindWord → Bool) → ℕ → List KindWord → Bool
-places t i [] = true
-places t i (w ∷ ws) = t i w && places t (suc i) ws
+-- does t hold of each number and what stands there, counted from i?
+unfoldable pub numbered : (ℕ → KindWord → Bool) → ℕ → List KindWord → Bool
+numbered t i [] = true
+numbered t i (w ∷ ws) = t i w && numbered t (suc i) ws
 
-at-place : (t : ℕ → KindWord → Bool) (i : ℕ) (ws : List KindWord) (j : ℕ) → places t i ws ≡ true → j < length ws → t (i + j) (getD ws j noKind) ≡ true
-unfolding places
-at-place t i [] j e l = absurd (omega arith)
-at-place t i (w ∷ ws) zero e l =
+at-number : (t : ℕ → KindWord → Bool) (i : ℕ) (ws : List KindWord) (j : ℕ) → numbered t i ws ≡ true → j < length ws → t (i + j) (getD ws j noKind) ≡ true
+unfolding numbered
+at-number t i [] j e l = absurd (omega arith)
+at-number t i (w ∷ ws) zero e l =
     let n : i + 0 ≡ i = omega arith in
-    rw n (and-both (t i w) (places t (suc i) ws) e .0)
-at-place t i (w ∷ ws) (suc j) e l =
+    rw n (and-both (t i w) (numbered t (suc i) ws) e .0)
+at-number t i (w ∷ ws) (suc j) e l =
     let n : i + suc j ≡ suc i + j = omega arith in
-    rw n (at-place t (suc i) ws j (and-both (t i w) (places t (suc i) ws) e .1) (omega arith))
+    rw n (at-number t (suc i) ws j (and-both (t i w) (numbered t (suc i) ws) e .1) (omega arith))
 
 -- what is computed of each kind and its number
-pub each-number : (t : ℕ → KindWord → Bool) → places t 0 kinds ≡ true → (k : ℕ) → k ≤ lastKind → t k (kindOf k) ≡ true
+pub each-number : (t : ℕ → KindWord → Bool) → numbered t 0 kinds ≡ true → (k : ℕ) → k ≤ lastKind → t k (kindOf k) ≡ true
 unfolding kindOf lastKind kinds
 each-number t e k high =
     let n : 0 + k ≡ k = omega arith in
-    subst (λ i. t i (kindOf k) ≡ true) n (at-place t 0 kinds k e (omega arith))
+    subst (λ i. t i (kindOf k) ≡ true) n (at-number t 0 kinds k e (omega arith))
 
 -- no kind has a number past the last
 pub past-last : (k : ℕ) → lastKind < k → kindOf k ≡ noKind
@@ -40,7 +40,7 @@ unfolding kindOf lastKind kinds
 past-last k l = List·getD-eq-default kinds noKind {n = k} (omega arith)
 
 -- what is computed of each kind and its number holds of a number that names a kind
-pub by-number : (t : ℕ → KindWord → Bool) → places t 0 kinds ≡ true → (k : ℕ) (κ : Kind) → kindOf k ≡ kind κ → t k (kind κ) ≡ true
+pub by-number : (t : ℕ → KindWord → Bool) → numbered t 0 kinds ≡ true → (k : ℕ) (κ : Kind) → kindOf k ≡ kind κ → t k (kind κ) ≡ true
 by-number t c k κ e = ⊎-elim named not-named (true-or-false (leb k lastKind))
   where
     named : leb k lastKind ≡ true → t k (kind κ) ≡ true
@@ -60,7 +60,7 @@ isKind noKind = false
 
 -- a number 1 to the last kind's names a kind
 pub names-kind : (k : ℕ) → 1 ≤ k → k ≤ lastKind → (κ : Kind) × (kindOf k ≡ kind κ)
-unfolding places kinds isKind
+unfolding numbered kinds isKind
 names-kind k low high = go (kindOf k) refl
   where
     tested : (eqb k 0 || isKind (kindOf k)) ≡ true

@@ -11,7 +11,7 @@ pub const FORM: u32 = 5;
 
 pub const ENTER: u32 = 6;
 
-pub const ORDER: u32 = 7;
+pub const PLACE: u32 = 7;
 
 pub const RECEIVE: u32 = 8;
 

@@ -35,9 +35,9 @@ use Rattle.codec.proofs.Blank.{Blank, blank-number, blank-flag, blank-given, bl
 use Rattle.codec.proofs.TableLaws.{all-keys}
 use Rattle.codec.proofs.SliceLaws.{sets-append-left}
 use Rattle.store.specs.Layout.{storedLength, recordersAt, recorderSize, numberSize, viewsAt, viewCells, viewSets}
-use Rattle.store.specs.Valid.{ViewsIn, RecorderIn, InRange}
-use Rattle.store.specs.Cells.{entryAt, RecorderCell, blankRecorder, recorderAt, blankPlace, blankEntry, placeAt, PlaceCell}
-use Rattle.store.specs.CellForms.{viewNumber, entryList, phaseForm, entryForm, recorderForm, placeForm, queueForm}
+use Rattle.store.specs.Valid.{InRange}
+use Rattle.store.specs.Cells.{entryAt, RecorderCell, blankRecorder, recorderAt, blankEndpoint, blankEntry, endpointAt, EndpointCell}
+use Rattle.store.specs.CellForms.{viewNumber, entryList, phaseForm, entryForm, recorderForm, endpointForm, queueForm}
 use Rattle.store.specs.Masks.{setForm}
 use Rattle.store.specs.ViewForm.{viewForm, viewList, viewsForm}
 use Rattle.store.specs.HallForm.{entriesForm, recordersForm, rowForm, networkForm, queuesForm, bodyForm, afterSize, fields, fromHall, viewsOf, hallFields, hallForm}
@@ -48,7 +48,7 @@ use Rattle.store.proofs.HallFormLaws.{hallFields-lawful}
 use Rattle.store.proofs.Ranges.{recorder-ok}
 use Rattle.store.proofs.HallOk.{fields-ok}
 use Rattle.store.proofs.Pieces.{recorder-piece}
-use Rattle.store.proofs.Puts.{recorderOf, placeOf, withCells, putRecorder}
+use Rattle.store.proofs.Puts.{recorderOf, endpointOf, withCells, putRecorder}
 use Rattle.store.proofs.Growth.{form-bytes}
 use Rattle.store.proofs.KeepFacts.{Between}
 use Rattle.store.proofs.KeepEntries.{not-empty}
@@ -119,7 +119,7 @@ starting : Bool → RecorderCell
 starting t = let g : ℕ = elim t [ true ↦ 1 | false ↦ 0 ] in recorderAt (λ r. g) (setHigh (λ r. g) (openRecorders [])) 0
 
 pub begun-more : (n m k : ℕ) → k < n → begun n m (suc k) ≡ putRecorder (suc k) (startOf n m (suc k)) (begun n m k)
-unfolding begun hallWith putRecorder recorderAt placeAt openHall openService openRecorders firstView starting
+unfolding begun hallWith putRecorder recorderAt endpointAt openHall openService openRecorders firstView starting
 begun-more n m k h =
     let r = suc k in
     let b = begun n m k in
@@ -127,7 +127,7 @@ begun-more n m k h =
     upd-ext (recorderOf b) (recorderOf (begun n m r)) r (startOf n m r)
     (ap starting (has-members r m r (omega arith) (omega arith) ∙ sym (has-members n m r (omega arith) h)))
     (λ q ne. ap starting (members-other k m q ne)) in
-    λ i. withCells b (viewsOf b) (cells i) (placeOf b) (b .service .queue)
+    λ i. withCells b (viewsOf b) (cells i) (endpointOf b) (b .service .queue)
 
 -- ## The bytes of a blank hall
 
@@ -179,11 +179,11 @@ module _ (n : ℕ) (size : Between 1 maxRecorders n) where
   unfolding recordersForm recorderAt openRecorders firstView has blankRecorder
   blank-recorders = blank-numbered recorderForm n maxRecorders blankRecorder _ (size .1) (λ r. recorder-zeros)
 
-  blank-network : (f : ℕ → ℕ → PlaceCell) → Blank (networkForm n []) f
+  blank-network : (f : ℕ → ℕ → EndpointCell) → Blank (networkForm n []) f
   unfolding networkForm rowForm
   blank-network f =
-      blank-numbered (rowForm []) n maxRecorders (λ g. blankPlace) f (size .1)
-      (λ p. blank-table placeForm [] maxViews blankPlace (f p) (omega arith) (λ g k. absurd (has-none g k)))
+      blank-numbered (rowForm []) n maxRecorders (λ g. blankEndpoint) f (size .1)
+      (λ p. blank-table endpointForm [] maxViews blankEndpoint (f p) (omega arith) (λ g k. absurd (has-none g k)))
 
   blank-queues : (f : ℕ → List Queued) → Blank (queuesForm []) f
   unfolding queuesForm
@@ -195,7 +195,7 @@ module _ (n : ℕ) (size : Between 1 maxRecorders n) where
       blank-given (viewsForm n) (bodyForm n) ([], λ g. []) _ blank-views
       (blank-given (entriesForm n) _ (0, entryAt noEntries) _ blank-entries
       (blank-given (recordersForm n) _ (recorderAt (firstView []) (openRecorders [])) _ blank-recorders
-      (blank-given (networkForm n []) _ (placeAt (blankHall n .service) noSummaries) _ (blank-network _) (blank-queues _))))
+      (blank-given (networkForm n []) _ (endpointAt (blankHall n .service) noSummaries) _ (blank-network _) (blank-queues _))))
 
   pub blank-bytes : stored (blankHall n) ≡ n ∷ zeros (storedLength - 1)
   unfolding stored hallForm guarded hallFields renamed mapped fields given number blankHall hallWith openHall

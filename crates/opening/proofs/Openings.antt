@@ -1,19 +1,16 @@
--- What an opening's words mean, and what the code's tests say of them. Assumes nothing.
-use Prim.Native.Nat.{ℕ, _+_, _-_, _/_, _%_, _^_, _≤_, _<_}
+-- Who is a founder, and the call: 16 before 18, or the opened hall. Assumes nothing.
+use Prim.Native.Nat.{ℕ, _+_, _-_, _<_}
 use native.Mathlib.Omega.{arith}
-use mathlib.Core.Path.{_≡_, refl, sym, ap, ap₂, _∙_}
-use mathlib.Core.Bool.{Bool, true, false, _&&_, and-false}
+use mathlib.Core.Path.{_≡_, sym, ap, ap₂, _∙_}
+use mathlib.Core.Bool.{Bool}
 use mathlib.Core.List.{List, _++_}
-use lib.Dec.{eqb, leb, ltb}
+use lib.Dec.{ltb}
 use lib.ListN.{length, drop}
-use lib.Pow.{pow-pos}
-use borrow.Author.Tests.{le-leb, lt-leb, eq-eqb, ne-eqb}
 use Rattle.base.specs.Lists.{has}
-use Rattle.base.specs.Numbers.{within}
 use Rattle.base.specs.Chains.{refuse, _⨾_}
 use Rattle.quorum.specs.Sets.{inMask, members}
 use Rattle.quorum.proofs.SetLaws.{has-members}
-use Rattle.model.specs.Hall.{Hall, maxRecorders}
+use Rattle.model.specs.Hall.{Hall}
 use Rattle.model.specs.Opening.{openingOf, wrongOpening, openRefusal, opened}
 use Rattle.store.specs.Layout.{storedLength}
 use Rattle.store.specs.StoredForm.{stored}
@@ -22,56 +19,18 @@ use Rattle.calls.proofs.OpenLaws.{open-refused, open-taken}
 use Rattle.opening.specs.Opened.{founderMask, begun, Taken}
 use Rattle.opening.proofs.OpenedLaws.{begun-opened, taken}
 
--- 16 by its three tests
-module _ (n founders : ℕ) where
-  tested : Bool → Bool → Bool → ℕ
-  tested low high above = refuse (elim (low && high) [ true ↦ above | false ↦ true ]) 16
-
-  by-tests : {p q r : Bool} → leb 1 n ≡ p → leb n maxRecorders ≡ q → leb (2 ^ n) founders ≡ r → openRefusal (openingOf n founders) ≡ tested p q r
-  unfolding openRefusal wrongOpening within tested
-  by-tests d e f = λ i. tested (d i) (e i) (f i)
-
-  pub too-few : n < 1 → openRefusal (openingOf n founders) ≡ 16
-  unfolding tested refuse
-  too-few h = by-tests (lt-leb 1 n h) refl refl
-
-  pub too-many : maxRecorders < n → openRefusal (openingOf n founders) ≡ 16
-  unfolding tested refuse
-  too-many h =
-      by-tests refl (lt-leb n maxRecorders h) refl
-      ∙ ap (λ (t : Bool). refuse (elim t [ true ↦ leb (2 ^ n) founders | false ↦ true ]) 16) (and-false (leb 1 n))
-
-  module _ (low : 1 ≤ n) (high : n ≤ maxRecorders) where
-    pub founders-above : 2 ^ n - 1 < founders → openRefusal (openingOf n founders) ≡ 16
-    unfolding tested refuse
-    founders-above h = by-tests (le-leb 1 n low) (le-leb n maxRecorders high) (le-leb (2 ^ n) founders (omega arith))
-
-    pub right-opening : founders ≤ 2 ^ n - 1 → openRefusal (openingOf n founders) ≡ 0
-    unfolding tested refuse
-    right-opening h = by-tests (le-leb 1 n low) (le-leb n maxRecorders high) (lt-leb (2 ^ n) founders (omega (arith, pow-pos n)))
-
--- the tested bit says whether recorder k + 1 is a founder
-module _ (n set k : ℕ) (h : k < n) where
-  by-bit : {t : Bool} → eqb (set / 2 ^ k % 2) 1 ≡ t → has (members n set) (k + 1) ≡ t
-  unfolding inMask
-  by-bit e =
-      let last : k + 1 - 1 ≡ k = omega arith in
-      has-members n set (k + 1) (omega arith) (omega arith) ∙ ap (λ (j : ℕ). eqb (set / 2 ^ j % 2) 1) last ∙ e
-
-  pub is-founder : set / 2 ^ k % 2 ≡ 1 → has (members n set) (k + 1) ≡ true
-  is-founder e = by-bit (eq-eqb _ 1 e)
-
-  pub is-outsider : (set / 2 ^ k % 2 ≡ 1 → ⊥) → has (members n set) (k + 1) ≡ false
-  is-outsider ne = by-bit (ne-eqb _ 1 ne)
+-- the mask says whether recorder k + 1 is a founder
+pub in-founders : (n set k : ℕ) → k < n → has (members n set) (k + 1) ≡ inMask set (k + 1)
+in-founders n set k h = has-members n set (k + 1) (omega arith) (omega arith)
 
 -- ## The call
 
-module _ (b : List ℕ) (n founders wrong short why : ℕ) (e : wrong ≡ openRefusal (openingOf n founders))
+module _ (b : List ℕ) (n founders wrong short why : ℕ) (t : Bool) (d : t ≡ wrongOpening (openingOf n founders)) (e : wrong ≡ refuse t 16)
     (f : short ≡ refuse (ltb (length b) storedLength) 18) (g : why ≡ wrong ⨾ short) where
   -- 16 before 18
   in-turn : why ≡ openNumber b (openingOf n founders)
-  unfolding openNumber
-  in-turn = g ∙ ap₂ _⨾_ e f
+  unfolding openNumber openRefusal
+  in-turn = g ∙ ap₂ _⨾_ (e ∙ ap (λ (z : Bool). refuse z 16) d) f
 
   pub leaves-refused : (why ≡ 0 → ⊥) → (why ≡ openOn b (openingOf n founders) .number) × (b ≡ openOn b (openingOf n founders) .bytes)
   leaves-refused ne =

@@ -1,5 +1,5 @@
--- The bytes of an opened hall as a sequence of writes: a blank hall, view 1 formed in it, then one recorder after another.
--- Assumes nothing.
+-- The bytes of an opened hall as a sequence of writes: a blank hall, view 1 formed in it, then one recorder after
+-- another. Assumes nothing.
 use Prim.Native.Nat.{ℕ, _-_, _^_, _≤_, _<_}
 use mathlib.Core.Bool.{true, false}
 use mathlib.Core.List.{List, [], _∷_}
@@ -12,7 +12,6 @@ use Rattle.model.specs.Hall.{Hall, maxRecorders}
 use Rattle.model.specs.Fields.{setCreated, setMembers, setService}
 use Rattle.model.specs.Opening.{Opening, openService, openHall}
 use Rattle.store.specs.Layout.{storedLength}
-use Rattle.store.specs.Valid.{RecorderIn, InRange}
 use Rattle.store.specs.Cells.{RecorderCell, recorderAt}
 
 -- ## The founders' mask

@@ -2,12 +2,10 @@
 
 ghost use mathlib.Core.Path.{_≡_};
 ghost use mathlib.Core.List.{List, _++_};
-ghost use Prim.Native.Nat.{ℕ, _+_, _-_, _*_, _^_, _≤_, _<_};
-ghost use lib.Dec.{ltb};
+ghost use Prim.Native.Nat.{ℕ, _+_, _-_, _*_, _≤_, _<_};
 ghost use lib.ListN.{length, drop};
 ghost use lib.Seq.{sets};
-ghost use Rattle.base.specs.Chains.{refuse, _⨾_};
-ghost use Rattle.model.specs.Opening.{openRefusal, openingOf};
+ghost use Rattle.model.specs.Opening.{openingOf};
 ghost use Rattle.model.specs.Hall.{maxRecorders};
 ghost use Rattle.store.specs.Layout.{storedLength, recordersAt, recorderSize};
 ghost use Rattle.store.specs.CellForms.{recorderForm};
@@ -17,64 +15,22 @@ ghost use Rattle.opening.specs.Opened.{Taken, founderMask, begun, startO
 use codec::clear;
 use codec::put_byte;
 use codec::put_u32;
-use model::limits;
 use model::refusals;
 use pieces::Recorder;
 use pieces::put_recorder;
+use quorum::all_of;
+use quorum::in_mask;
 use store::layout;
-
-// "N, 1 to 8"
-const RECORDERS: u32 = limits::MAX_RECORDERS as u32;
-
-// The set of recorders 1 to n.
-fn all(n: u32) -> u32
-    requires { ⌜ n ≤ maxRecorders ⌝ }
-    ensures { λ r. ⌜ r ≡ 2 ^ n - 1 ⌝ }
-{
-    (1 << n) - 1
-}
-
-// 16: "opening with N not 1 to 8, or founders above N".
-fn wrong_opening(n: u32, founders: u32) -> u32
-    ensures { λ r. ⌜ r ≡ openRefusal (openingOf n founders) ⌝ }
-{
-    if n < 1 {
-        return refusals::OPENING;
-    }
-    if RECORDERS < n {
-        return refusals::OPENING;
-    }
-    if all(n) < founders {
-        refusals::OPENING
-    } else {
-        0
-    }
-}
-
-// 18: "the slice to open or write into is too short".
-fn too_short(len: usize) -> u32
-    ensures { λ r. ⌜ r ≡ refuse (ltb len storedLength) 18 ⌝ }
-{
-    if len < layout::LENGTH {
-        refusals::SHORT
-    } else {
-        0
-    }
-}
-
-// The first of two refusals, 0 for none.
-fn first(one: u32, two: u32) -> u32
-    ensures { λ r. ⌜ r ≡ one ⨾ two ⌝ }
-{
-    if one == 0 { two } else { one }
-}
+use words::first;
+use words::refusal;
+use words::wrong_opening;
 
 // "A founders word of 0 means all recorders."
 fn founder_mask(n: u32, founders: u32) -> u32
     requires { ⌜ n ≤ maxRecorders ⌝ }
     ensures { λ r. ⌜ r ≡ founderMask (openingOf n founders) ⌝ }
 {
-    if founders == 0 { all(n) } else { founders }
+    if founders == 0 { all_of(n) } else { founders }
 }
 
 // N, and view 1 formed: "The hall opens with view 1, the founders."
@@ -92,10 +48,12 @@ fn begin(b: &mut [u8], n: u32, set: u32)
 // Recorder k + 1 starts: "founders have current view and highest primary 1, others 0 for both".
 fn start(b: &mut [u8], set: u32, k: u32)
     requires { ⌜ (k < maxRecorders) × (storedLength ≤ length (now b)) ⌝ }
-    ensures { λ _. ⌜ ((n : ℕ) → k < n → now (b .exit) ≡ sets (now (b .entry)) (recordersAt + k * recorderSize) (recorderForm .encode (startOf n set (k + 1)))) ⌝ }
+    ensures { λ _. ⌜ ((n : ℕ) → k < n
+        → now (b .exit)
+        ≡ sets (now (b .entry)) (recordersAt + k * recorderSize) (recorderForm .encode (startOf n set (k + 1)))) ⌝ }
 {
     let at = layout::RECORDERS + k as usize * layout::RECORDER;
-    if (set >> k) % 2 == 1 {
+    if in_mask(set, k + 1) {
         put_recorder(b, at, Recorder::founder());
     } else {
         put_recorder(b, at, Recorder::outsider());
@@ -105,7 +63,8 @@ fn start(b: &mut [u8], set: u32, k: u32)
 // Recorders 1 to n start, one after another.
 fn start_all(b: &mut [u8], n: u32, set: u32)
     requires { ⌜ Taken n set (now b) ⌝ }
-    ensures { λ _. ⌜ ((rest : List ℕ) → now (b .entry) ≡ stored (begun n set 0) ++ rest → now (b .exit) ≡ stored (begun n set n) ++ rest) ⌝ }
+    ensures { λ _. ⌜ ((rest : List ℕ) → now (b .entry) ≡ stored (begun n set 0) ++ rest
+        → now (b .exit) ≡ stored (begun n set n) ++ rest) ⌝ }
 {
     let mut k: u32 = 0;
     while k < n {
@@ -119,8 +78,8 @@ pub fn open(b: &mut [u8], n: u32, founders: u32) -> u32
     ensures number { λ r. ⌜ r ≡ openOn (now (b .entry)) (openingOf n founders) .number ⌝ }
     ensures bytes { λ r. ⌜ now (b .exit) ≡ openOn (now (b .entry)) (openingOf n founders) .bytes ⌝ }
 {
-    let wrong = wrong_opening(n, founders);
-    let short = too_short(b.len());
+    let wrong = refusal(wrong_opening(n, founders), refusals::OPENING);
+    let short = refusal(b.len() < layout::LENGTH, refusals::SHORT);
     let why = first(wrong, short);
     if why != 0 {
         return why;

@@ -2,8 +2,7 @@ pub mod Chain
 pub mod SummariesLaws
 pub mod NumbersLaws
 pub mod Lists
-pub mod FlagsLaws
 pub mod EntriesLaws
 pub mod MessagesLaws
-pub mod PlacesLaws
+pub mod EndpointsLaws
 pub mod RecordersLaws

@@ -1,7 +1,6 @@
 pub mod Entries
-pub mod Flags
 pub mod Messages
 pub mod Numbers
-pub mod Places
+pub mod Endpoints
 pub mod Recorders
 pub mod Summaries

@@ -1,32 +1,48 @@
-// Votes and quorums of a hall (document 01, "Votes and views").
+// Votes and quorums of a hall (document 01, "Votes and views"). For the crates of this repository: a `requires` is met
+// by each caller's proof.
 
 ghost use mathlib.Core.Path.{_≡_};
-ghost use Prim.Native.Nat.{_^_, _≤_, _<_};
+ghost use Prim.Native.Nat.{_-_, _^_, _≤_, _<_};
 ghost use Rattle.quorum.specs.Sets.{inMask};
 ghost use Rattle.quorum.specs.Votes.{votes, quorum, share, builtIn, rowOf};
 
 // "Recorder 1 has 2 votes, recorders 2 to 8 have 1 each."
-pub const BUILT_IN: [u32; 8] = [2, 1, 1, 1, 1, 1, 1, 1];
+const BUILT_IN: [u32; 8] = [2, 1, 1, 1, 1, 1, 1, 1];
 
 // The set of all eight recorders.
-pub const ALL: u32 = 255;
+const ALL: u32 = 255;
 
-// What recorder k adds to the votes of a set: "a set is a mask with bit k-1 for recorder k".
-fn vote(row: &[u32; 8], k: u32, set: u32) -> u32
-    requires { ⌜ 1 ≤ k ⌝ }
-    requires { ⌜ k ≤ 8 ⌝ }
-    ensures { λ r. ⌜ r ≡ share (inMask set k) (rowOf (now (row .entry)) k) ⌝ }
+// The set of recorders 1 to n.
+pub fn all_of(n: u32) -> u32
+    requires { ⌜ n ≤ 8 ⌝ }
+    ensures { λ r. ⌜ r ≡ 2 ^ n - 1 ⌝ }
+{
+    (1 << n) - 1
+}
+
+// Is recorder k in a set: "a set is a mask with bit k-1 for recorder k".
+pub fn in_mask(set: u32, k: u32) -> bool
+    requires { ⌜ (1 ≤ k) × (k ≤ 8) ⌝ }
+    ensures { λ r. ⌜ r ≡ inMask set k ⌝ }
 {
     let i = k - 1;
-    if (set >> i) % 2 == 1 {
-        row[i as usize]
+    (set >> i) % 2 == 1
+}
+
+// What recorder k adds to the votes of a set.
+fn vote(row: &[u32; 8], k: u32, set: u32) -> u32
+    requires { ⌜ (1 ≤ k) × (k ≤ 8) ⌝ }
+    ensures { λ r. ⌜ r ≡ share (inMask set k) (rowOf (now (row .entry)) k) ⌝ }
+{
+    if in_mask(set, k) {
+        row[k as usize - 1]
     } else {
         0
     }
 }
 
 // The votes of recorders 1 to n that are in the set.
-pub fn votes(row: &[u32; 8], n: u32, set: u32) -> u64
+fn votes(row: &[u32; 8], n: u32, set: u32) -> u64
     requires { ⌜ n ≤ 8 ⌝ }
     ensures { λ r. ⌜ r ≡ votes (rowOf (now (row .entry))) n (inMask set) ⌝ }
     ensures small { λ r. ⌜ r < 2 ^ 35 ⌝ }
@@ -41,7 +57,7 @@ pub fn votes(row: &[u32; 8], n: u32, set: u32) -> u64
 }
 
 // "A set is a quorum if twice its votes exceed the votes of recorders 1 to N together."
-pub fn is_quorum(row: &[u32; 8], n: u32, set: u32) -> bool
+fn is_quorum(row: &[u32; 8], n: u32, set: u32) -> bool
     requires { ⌜ n ≤ 8 ⌝ }
     ensures { λ r. ⌜ r ≡ quorum (rowOf (now (row .entry))) n (inMask set) ⌝ }
 {

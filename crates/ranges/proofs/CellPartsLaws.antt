@@ -10,7 +10,7 @@ use lib.Seq.{take-take}
 use borrow.Author.Tests.{eq-eqb, ne-eqb, lt-leb}
 use Rattle.model.specs.Hall.{maxSequence, maxEntries, maxBuffer, maxOrder, maxNumber, maxPending, maxQueue, maxRecorders, Payload}
 use Rattle.codec.specs.Bytes.{Block, part, allZero}
-use Rattle.codec.specs.Form.{Form, mapped, renamed, guarded}
+use Rattle.codec.specs.Form.{mapped, renamed, guarded}
 use Rattle.codec.specs.Number.{value, number, byte, mark, between}
 use Rattle.codec.specs.Pair.{given}
 use Rattle.codec.specs.Cells.{validAll, cells}
@@ -18,9 +18,9 @@ use Rattle.codec.specs.Bounded.{bounded, optional}
 use Rattle.codec.specs.Table.{flags}
 use Rattle.codec.proofs.BytesLaws.{drop-part}
 use Rattle.codec.proofs.NumberLaws.{value-byte}
-use Rattle.store.specs.Layout.{entrySize, recorderSize, placeSize, summarySize, viewSize, numberSize, wordSize, viewSetAt, payloadSize, entryPayloadAt, listSize, summaryOrderAt, sentSize, queuedMessageAt, queuedSize}
+use Rattle.store.specs.Layout.{entrySize, recorderSize, endpointSize, summarySize, viewSize, numberSize, wordSize, viewSetAt, payloadSize, entryPayloadAt, listSize, summaryOrderAt, sentSize, queuedMessageAt, queuedSize}
 use Rattle.store.specs.Cells.{EntryCell}
-use Rattle.store.specs.CellForms.{viewNumber, entryList, labelWhole, payloadForm, entryForm, summaryForm, sentForm, phaseForm, recorderForm, messageForm, placeForm, queuedForm}
+use Rattle.store.specs.CellForms.{viewNumber, entryList, labelWhole, payloadForm, entryForm, summaryForm, sentForm, phaseForm, recorderForm, messageForm, endpointForm, queuedForm}
 use Rattle.store.specs.Masks.{setForm}
 use Rattle.store.specs.ViewForm.{viewForm}
 use Rattle.ranges.specs.CellParts.{wholeLabel, recorderRest}
@@ -100,11 +100,11 @@ messages-part cap o b h =
     ∙ ap (λ (t : Bool). leb (getD b o 0) cap && t) (cells-same messageForm (byte 0 maxEntries) (λ x. refl) (getD b o 0) cap (part (o + 1) (cap * 1) b))
     ∙ sym (bounded-part (byte 0 maxEntries) cap o b h)
 
-pub place-part : (o : ℕ) (b : List ℕ) → o + placeSize ≤ length b → placeForm .valid (part o placeSize b)
+pub endpoint-part : (o : ℕ) (b : List ℕ) → o + endpointSize ≤ length b → endpointForm .valid (part o endpointSize b)
     ≡ bounded (byte 0 maxEntries) maxPending .valid (part o (listSize maxPending) b)
     && (mark (maxQueue + 1) .valid (part (o + listSize maxPending) 1 b) && (mark (maxQueue + 1) .valid (part (o + listSize maxPending + 1) 1 b) && sentForm .valid (part (o + listSize maxPending + 1 + 1) sentSize b)))
-unfolding placeForm renamed mapped
-place-part o b h =
+unfolding endpointForm renamed mapped
+endpoint-part o b h =
     pair-part (bounded messageForm maxPending) _ o b (pair-part (mark (maxQueue + 1)) _ (o + listSize maxPending) b (pair-part (mark (maxQueue + 1)) sentForm (o + listSize maxPending + 1) b refl))
     ∙ ap (λ (t : Bool). t && (mark (maxQueue + 1) .valid (part (o + listSize maxPending) 1 b) && (mark (maxQueue + 1) .valid (part (o + listSize maxPending + 1) 1 b) && sentForm .valid (part (o + listSize maxPending + 1 + 1) sentSize b))))
     (messages-part maxPending o b (omega arith))

@@ -1,6 +1,6 @@
 -- What the code tests of the small parts of a hall's bytes: numbers, marks, sets of flags, pairs at an offset.
 -- Assumes nothing.
-use Prim.Native.Nat.{ℕ, zero, suc, _+_, _-_, _*_, _/_, _^_, _≤_, _<_}
+use Prim.Native.Nat.{ℕ, zero, suc, _+_, _-_, _*_, _^_, _≤_, _<_}
 use native.Mathlib.Omega.{arith}
 use native.Mathlib.Nat.{mul-one, not-suc-le-zero, le-of-suc-le-suc}
 use native.Mathlib.Numerals.{add-one}
@@ -99,16 +99,3 @@ flags-part n o b h =
     (ap (λ (j : ℕ). allZero (drop j (part o n b))) (mul-one n) ∙ ap allZero (drop-part o n n b (omega arith)) ∙ ap (λ (j : ℕ). allZero (part (o + n) j b)) none)
     ∙ and-true (allIn 0 1 (part o n b))
     ∙ ap (λ (j : ℕ). allIn 0 1 (part o j b)) (sym e)
-
--- the largest mask of a set within 1 to n
-pub full-set : (n : ℕ) → n ≤ 8 → 255 / 2 ^ (8 - n) ≡ 2 ^ n - 1
-full-set zero h = refl
-full-set (suc zero) h = refl
-full-set (suc (suc zero)) h = refl
-full-set (suc (suc (suc zero))) h = refl
-full-set (suc (suc (suc (suc zero)))) h = refl
-full-set (suc (suc (suc (suc (suc zero))))) h = refl
-full-set (suc (suc (suc (suc (suc (suc zero)))))) h = refl
-full-set (suc (suc (suc (suc (suc (suc (suc zero))))))) h = refl
-full-set (suc (suc (suc (suc (suc (suc (suc (suc zero)))))))) h = refl
-full-set (suc (suc (suc (suc (suc (suc (suc (suc (suc n))))))))) h = absurd (omega arith)

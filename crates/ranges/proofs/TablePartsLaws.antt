@@ -1,6 +1,7 @@
 -- Laws of specs/TableParts. Assumes nothing.
 use Prim.Native.Nat.{ℕ, zero, suc, _+_, _-_, _*_, _≤_, _<_}
 use native.Mathlib.Omega.{arith}
+use native.Mathlib.Nat.{not-suc-le-zero, le-of-suc-le-suc}
 use mathlib.Core.Path.{_≡_, refl, sym, ap, ap₂, _∙_}
 use mathlib.Core.Bool.{Bool, true, false, _&&_, and-eq-true-iff}
 use mathlib.Core.List.{List, _∷_}
@@ -9,22 +10,24 @@ use lib.ListN.{length, getD, take, drop}
 use lib.Seq.{drop-drop}
 use borrow.Author.Tests.{leb-true, le-leb, lt-leb, lt-ltb, le-ltb}
 use Rattle.base.specs.Numbers.{numbers}
-use Rattle.base.specs.Lists.{rising}
+use Rattle.base.specs.Lists.{has, rising}
+use Rattle.base.proofs.Bools.{by-cases}
 use Rattle.base.proofs.NumbersLaws.{length-numbers}
 use Rattle.model.specs.Hall.{maxEntries, maxViews, maxRecorders}
 use Rattle.codec.specs.Bytes.{part}
-use Rattle.codec.specs.Form.{Form, mapped, renamed, guarded}
+use Rattle.codec.specs.Form.{mapped, renamed, guarded}
 use Rattle.codec.specs.Number.{value, number, byte}
 use Rattle.codec.specs.Cells.{decodeAll, cells}
 use Rattle.codec.specs.Bounded.{bounded}
-use Rattle.codec.specs.Table.{table}
+use Rattle.codec.specs.Table.{indexOf, table}
 use Rattle.codec.proofs.NumberLaws.{number-decode}
+use Rattle.codec.proofs.TableLaws.{index-lt, index-key}
 use Rattle.store.specs.Layout.{entryCells, networkAt, recordersAt, queuesAt, storedLength, numberSize, viewSize, entrySize, viewsAt, viewCells, entriesAt, viewsSize, entriesSize, recordersSize, networkSize, queuesSize, bodySize, restSize}
 use Rattle.store.specs.Cells.{blankEntry}
-use Rattle.store.specs.CellForms.{entryForm, recorderForm, placeForm, queueForm}
+use Rattle.store.specs.CellForms.{entryForm, recorderForm, endpointForm, queueForm}
 use Rattle.store.specs.ViewForm.{Views, viewForm, numbersOf, numbersRise, viewList, viewsForm}
 use Rattle.store.specs.HallForm.{entriesForm, recordersForm, rowForm, networkForm, queuesForm, bodyForm, afterSize, fields, hallFields}
-use Rattle.ranges.specs.TableParts.{viewNumbers, tablesIn}
+use Rattle.ranges.specs.TableParts.{viewNumbers, Found, tablesIn}
 use Rattle.ranges.proofs.Parts.{given-part, pair-part, given-value, byte-part}
 use Rattle.ranges.proofs.Loops.{cells-same, bounded-part, bounded-value}
 
@@ -34,6 +37,31 @@ pub length-viewNumbers : (m o : ℕ) (b : List ℕ) → length (viewNumbers m o 
 unfolding viewNumbers
 length-viewNumbers zero o b = refl
 length-viewNumbers (suc m) o b = ap suc (length-viewNumbers m (o + viewSize) b)
+
+pub nth-view : (m o i : ℕ) (b : List ℕ) → i < m → getD (viewNumbers m o b) i 0 ≡ value (part (o + i * viewSize) numberSize b)
+unfolding viewNumbers
+nth-view zero o i b h = absurd (not-suc-le-zero h)
+nth-view (suc m) o zero b h =
+    let e : o + 0 * viewSize ≡ o = omega arith in
+    ap (λ (j : ℕ). value (part j numberSize b)) (sym e)
+nth-view (suc m) o (suc i) b h =
+    let e : o + viewSize + i * viewSize ≡ o + suc i * viewSize = omega arith in
+    nth-view m (o + viewSize) i b (le-of-suc-le-suc h) ∙ ap (λ (j : ℕ). value (part j numberSize b)) e
+
+-- a view that is found at none of m indices is not among their numbers
+module _ (m : ℕ) (b : List ℕ) (g : ℕ) where
+  abbrev ks : List ℕ
+  ks = viewNumbers m viewCells b
+
+  inside : has ks g ≡ true → indexOf ks g < m
+  inside t = omega (arith, index-lt ks g t, length-viewNumbers m viewCells b)
+
+  pub found-none : (i : ℕ) → Found m b g i → m ≤ i → has ks g ≡ false
+  found-none i f h =
+      by-cases (has ks g) (λ t. absurd (f .before (indexOf ks g) (early t) (sym (nth-view m viewCells (indexOf ks g) b (inside t)) ∙ index-key ks g t))) (λ t. t)
+    where
+      early : has ks g ≡ true → indexOf ks g < i
+      early t = omega (arith, inside t)
 
 -- the number of the view at offset o
 view-number : (n o : ℕ) (b : List ℕ) → viewForm n .decode (part o viewSize b) .0 ≡ value (part o numberSize b)
@@ -143,7 +171,7 @@ body-part n m v b e =
     && (cells recorderForm k maxRecorders .valid (part recordersAt recordersSize b)
     && (cells (rowForm (v .0)) k maxRecorders .valid (part networkAt networkSize b) && cells queueForm l maxViews .valid (part queuesAt queuesSize b)))) (length-numbers 1 n) e
     ∙ ap (λ (t : Bool). entriesForm n .valid (part entriesAt entriesSize b) && (cells recorderForm n maxRecorders .valid (part recordersAt recordersSize b) && (t && cells queueForm m maxViews .valid (part queuesAt queuesSize b))))
-    (cells-same (rowForm (v .0)) (cells placeForm m maxViews) (λ x. ap (λ (l : ℕ). cells placeForm l maxViews .valid x) e) n maxRecorders (part networkAt networkSize b))
+    (cells-same (rowForm (v .0)) (cells endpointForm m maxViews) (λ x. ap (λ (l : ℕ). cells endpointForm l maxViews .valid x) e) n maxRecorders (part networkAt networkSize b))
 
 -- ## The whole
 

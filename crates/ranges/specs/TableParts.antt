@@ -1,14 +1,15 @@
 -- What the code tests of the tables, and of the whole. Assumes nothing.
-use Prim.Native.Nat.{ℕ, zero, suc, _+_}
+use Prim.Native.Nat.{ℕ, zero, suc, _+_, _*_, _≤_, _<_}
+use mathlib.Core.Path.{_≡_}
 use mathlib.Core.Bool.{Bool, _&&_}
 use mathlib.Core.List.{List, [], _∷_}
 use Rattle.model.specs.Hall.{maxViews, maxRecorders}
 use Rattle.codec.specs.Bytes.{part}
-use Rattle.codec.specs.Form.{Form}
 use Rattle.codec.specs.Number.{value}
 use Rattle.codec.specs.Cells.{cells}
-use Rattle.store.specs.Layout.{networkAt, recordersAt, queuesAt, numberSize, viewSize, entriesAt, entriesSize, recordersSize, networkSize, queuesSize}
-use Rattle.store.specs.CellForms.{recorderForm, placeForm, queueForm}
+use Rattle.store.specs.Layout.{networkAt, recordersAt, queuesAt, numberSize, viewSize, viewCells, entriesAt}
+use Rattle.store.specs.Layout.{entriesSize, recordersSize, networkSize, queuesSize}
+use Rattle.store.specs.CellForms.{recorderForm, endpointForm, queueForm}
 use Rattle.store.specs.HallForm.{entriesForm}
 
 -- ## The formed views
@@ -18,6 +19,16 @@ unfoldable pub viewNumbers : ℕ → ℕ → List ℕ → List ℕ
 viewNumbers zero o b = []
 viewNumbers (suc m) o b = value (part o numberSize b) ∷ viewNumbers m (o + viewSize) b
 
+-- the number of the view at index i
+abbrev pub viewAt : List ℕ → ℕ → ℕ
+viewAt b i = value (part (viewCells + i * viewSize) numberSize b)
+
+-- i is the first index at which the view g stands among m views, or m if it is none of them
+pub record Found (m : ℕ) (b : List ℕ) (g i : ℕ) : Type 0 where
+  pub within : i ≤ m
+  pub here : i < m → viewAt b i ≡ g
+  pub before : (j : ℕ) → j < i → viewAt b j ≡ g → ⊥
+
 -- ## The other tables
 
 -- the entries, recorders, network and queues of n recorders and m views
@@ -25,4 +36,5 @@ unfoldable pub tablesIn : ℕ → ℕ → List ℕ → Bool
 tablesIn n m b =
     entriesForm n .valid (part entriesAt entriesSize b)
     && (cells recorderForm n maxRecorders .valid (part recordersAt recordersSize b)
-    && (cells (cells placeForm m maxViews) n maxRecorders .valid (part networkAt networkSize b) && cells queueForm m maxViews .valid (part queuesAt queuesSize b)))
+    && (cells (cells endpointForm m maxViews) n maxRecorders .valid (part networkAt networkSize b)
+    && cells queueForm m maxViews .valid (part queuesAt queuesSize b)))

@@ -1,7 +1,8 @@
-// Is each field of a hall's bytes in its range? (31 of document 01, "A hall's fields"; the cross rules are in validity.)
+// Is each field of a hall's bytes in its range? 31 of document 01, "A hall's fields"; the cross rules are in validity.
+// The tests of a cell are gathered by `&`: all are made, with no branch. These functions are for the crates of this
+// repository: a `requires` is met by each caller's proof.
 ghost use mathlib.Core.Path.{_≡_};
-ghost use mathlib.Core.Bool.{_&&_};
-ghost use Prim.Native.Nat.{_+_, _-_, _*_, _^_, _≤_, _<_};
+ghost use Prim.Native.Nat.{_+_, _-_, _*_, _≤_, _<_};
 ghost use lib.ListN.{length, take};
 ghost use Rattle.codec.specs.Bytes.{part};
 ghost use Rattle.codec.specs.Number.{byte, mark};
@@ -9,22 +10,25 @@ ghost use Rattle.codec.specs.Cells.{cells};
 ghost use Rattle.codec.specs.Table.{flags};
 ghost use Rattle.base.specs.Lists.{rising};
 ghost use Rattle.model.specs.Hall.{maxEntries, maxViews, maxQueue, maxRecorders};
-ghost use Rattle.store.specs.Layout.{viewsAt, viewCells, viewSize, entriesAt, entryCells, entrySize, recordersAt, recorderSize, networkAt, placeSize, rowSize, summarySize, queuesAt, queueSize, storedLength, numberSize, setsSize, sentSize, queuedSize, messagesSize, viewsSize, entriesSize, recordersSize, networkSize, queuesSize};
-ghost use Rattle.store.specs.CellForms.{viewNumber, entryForm, summaryForm, sentForm, recorderForm, placeForm, queuedForm, queueForm};
+ghost use Rattle.store.specs.Layout.{viewsAt, viewCells, entriesAt, entryCells, recordersAt, networkAt, queuesAt};
+ghost use Rattle.store.specs.Layout.{storedLength, viewsSize, entriesSize, recordersSize, networkSize, queuesSize};
+ghost use Rattle.store.specs.Layout.{viewSize, entrySize, recorderSize, endpointSize, rowSize, summarySize};
+ghost use Rattle.store.specs.Layout.{queueSize, numberSize, setsSize, sentSize, queuedSize, messagesSize};
+ghost use Rattle.store.specs.CellForms.{viewNumber, entryForm, summaryForm, sentForm, recorderForm};
+ghost use Rattle.store.specs.CellForms.{endpointForm, queuedForm, queueForm};
 ghost use Rattle.store.specs.ViewForm.{viewForm, viewsForm};
 ghost use Rattle.store.specs.HallForm.{entriesForm, hallFields};
 ghost use Rattle.ranges.specs.CellParts.{wholeLabel, recorderRest};
-ghost use Rattle.ranges.specs.TableParts.{viewNumbers, tablesIn};
+ghost use Rattle.ranges.specs.TableParts.{viewNumbers, Found, tablesIn};
 use model::limits;
 use model::phases;
+use quorum::all_of;
 use store::layout;
 
 // The limits as bytes; a mark runs to one past the end of its list.
 const ENTRIES: u8 = limits::MAX_ENTRIES as u8;
 
 const RECORDERS: u8 = limits::MAX_RECORDERS as u8;
-
-const ALL: u8 = quorum::ALL as u8;
 
 const SEQUENCE: u8 = limits::MAX_SEQUENCE as u8;
 
@@ -34,20 +38,13 @@ const ORDER_MARK: u8 = limits::MAX_ORDER as u8 + 1;
 
 const QUEUE_MARK: u8 = limits::MAX_QUEUE as u8 + 1;
 
-// Do both hold?
-fn both(a: bool, b: bool) -> bool
-    ensures { λ r. ⌜ r ≡ a && b ⌝ }
-{
-    if a { b } else { false }
-}
-
 // Is the byte at an offset in lo .. hi?
 fn valid_byte(b: &[u8], at: usize, lo: u8, hi: u8) -> bool
     requires { ⌜ at < length (now b) ⌝ }
     ensures { λ r. ⌜ r ≡ byte lo hi .valid (part at 1 (now (b .entry))) ⌝ }
 {
     let x = b[at];
-    both(lo <= x, x <= hi)
+    (lo <= x) & (x <= hi)
 }
 
 // Is the byte at an offset a mark of 1 .. hi, stored less 1?
@@ -88,11 +85,10 @@ fn valid_entry(b: &[u8], at: usize, n: u8) -> bool
 {
     let view = at + layout::ENTRY_PAYLOAD + layout::PAYLOAD;
     let seq = view + layout::NUMBER;
-    let ranges = both(
-        valid_byte(b, at, 1, n),
-        both(valid_view_number(b, view), valid_byte(b, seq, 0, SEQUENCE)),
-    );
-    both(ranges, whole_label(codec::get_u32(b, view), b[seq]))
+    valid_byte(b, at, 1, n)
+        & valid_view_number(b, view)
+        & valid_byte(b, seq, 0, SEQUENCE)
+        & whole_label(codec::get_u32(b, view), b[seq])
 }
 
 // "A summary is known entries, order, confirm mark, highest primary."
@@ -102,16 +98,10 @@ fn valid_summary(b: &[u8], at: usize) -> bool
 {
     let order = at + layout::SUMMARY_ORDER;
     let confirm = order + layout::ORDER;
-    both(
-        valid_flags(b, at, limits::MAX_ENTRIES),
-        both(
-            codec::valid_list(b, order, limits::MAX_ORDER, 1, ENTRIES),
-            both(
-                valid_mark(b, confirm, ORDER_MARK),
-                valid_view_number(b, confirm + 1),
-            ),
-        ),
-    )
+    valid_flags(b, at, limits::MAX_ENTRIES)
+        & codec::valid_list(b, order, limits::MAX_ORDER, 1, ENTRIES)
+        & valid_mark(b, confirm, ORDER_MARK)
+        & valid_view_number(b, confirm + 1)
 }
 
 // "At most one sent summary": a count, and the summary or zeros.
@@ -139,22 +129,13 @@ fn valid_recorder_rest(b: &[u8], at: usize) -> bool
     let known = high + layout::NUMBER;
     let safe = known + limits::MAX_ENTRIES;
     let heard = safe + limits::MAX_ENTRIES;
-    let marks = valid_mark(b, at, ORDER_MARK);
-    let sources = both(
-        valid_flags(b, heard, limits::MAX_RECORDERS),
-        valid_flags(b, heard + limits::MAX_RECORDERS, limits::MAX_RECORDERS),
-    );
-    let sets = both(
-        valid_flags(b, known, limits::MAX_ENTRIES),
-        both(valid_flags(b, safe, limits::MAX_ENTRIES), sources),
-    );
-    both(
-        marks,
-        both(
-            valid_mark(b, report, ORDER_MARK),
-            both(valid_view_number(b, high), sets),
-        ),
-    )
+    valid_mark(b, at, ORDER_MARK)
+        & valid_mark(b, report, ORDER_MARK)
+        & valid_view_number(b, high)
+        & valid_flags(b, known, limits::MAX_ENTRIES)
+        & valid_flags(b, safe, limits::MAX_ENTRIES)
+        & valid_flags(b, heard, limits::MAX_RECORDERS)
+        & valid_flags(b, heard + limits::MAX_RECORDERS, limits::MAX_RECORDERS)
 }
 
 // "For each recorder: current view, phase, known entries, .."
@@ -166,36 +147,25 @@ fn valid_recorder(b: &[u8], at: usize) -> bool
     let next = phase + 1;
     let buffer = next + 1;
     let order = buffer + layout::BUFFER;
-    let lists = both(
-        codec::valid_list(b, buffer, limits::MAX_BUFFER, 1, ENTRIES),
-        both(
-            codec::valid_list(b, order, limits::MAX_ORDER, 1, ENTRIES),
-            valid_recorder_rest(b, order + layout::ORDER),
-        ),
-    );
-    both(
-        valid_view_number(b, at),
-        both(
-            valid_byte(b, phase, phases::NORMAL, phases::COLLECT),
-            both(valid_mark(b, next, SEQUENCE_MARK), lists),
-        ),
-    )
+    valid_view_number(b, at)
+        & valid_byte(b, phase, phases::NORMAL, phases::COLLECT)
+        & valid_mark(b, next, SEQUENCE_MARK)
+        & codec::valid_list(b, buffer, limits::MAX_BUFFER, 1, ENTRIES)
+        & codec::valid_list(b, order, limits::MAX_ORDER, 1, ENTRIES)
+        & valid_recorder_rest(b, order + layout::ORDER)
 }
 
 // "For each recorder and view: a pending list, receive and safe marks, and at most one sent summary."
-fn valid_place(b: &[u8], at: usize) -> bool
-    requires { ⌜ at + placeSize ≤ length (now b) ⌝ }
-    ensures { λ r. ⌜ r ≡ placeForm .valid (part at placeSize (now (b .entry))) ⌝ }
+fn valid_endpoint(b: &[u8], at: usize) -> bool
+    requires { ⌜ at + endpointSize ≤ length (now b) ⌝ }
+    ensures { λ r. ⌜ r ≡ endpointForm .valid (part at endpointSize (now (b .entry))) ⌝ }
 {
     let receive = at + layout::PENDING;
     let safe = receive + 1;
-    both(
-        codec::valid_list(b, at, limits::MAX_PENDING, 0, ENTRIES),
-        both(
-            valid_mark(b, receive, QUEUE_MARK),
-            both(valid_mark(b, safe, QUEUE_MARK), valid_sent(b, safe + 1)),
-        ),
-    )
+    codec::valid_list(b, at, limits::MAX_PENDING, 0, ENTRIES)
+        & valid_mark(b, receive, QUEUE_MARK)
+        & valid_mark(b, safe, QUEUE_MARK)
+        & valid_sent(b, safe + 1)
 }
 
 // A queued message "with its source".
@@ -203,10 +173,7 @@ fn valid_queued(b: &[u8], at: usize) -> bool
     requires { ⌜ at + queuedSize ≤ length (now b) ⌝ }
     ensures { λ r. ⌜ r ≡ queuedForm .valid (part at queuedSize (now (b .entry))) ⌝ }
 {
-    both(
-        valid_byte(b, at, 1, RECORDERS),
-        valid_byte(b, at + layout::QUEUED_MESSAGE, 0, ENTRIES),
-    )
+    valid_byte(b, at, 1, RECORDERS) & valid_byte(b, at + layout::QUEUED_MESSAGE, 0, ENTRIES)
 }
 
 // The m messages of a queue, and zeros.
@@ -239,7 +206,8 @@ fn valid_queue(b: &[u8], at: usize) -> bool
 // The m entries of a hall of n recorders, and zeros.
 fn valid_entry_cells(b: &[u8], m: usize, n: u8) -> bool
     requires { ⌜ (m ≤ maxEntries) × (recordersAt ≤ length (now b)) ⌝ }
-    ensures { λ r. ⌜ r ≡ cells (entryForm n) m maxEntries .valid (part entryCells (maxEntries * entrySize) (now (b .entry))) ⌝ }
+    ensures { λ r. ⌜ r ≡ cells (entryForm n) m maxEntries
+        .valid (part entryCells (maxEntries * entrySize) (now (b .entry))) ⌝ }
 {
     let mut i = 0;
     while i < m {
@@ -278,25 +246,26 @@ fn valid_recorders(b: &[u8], n: usize) -> bool
     codec::is_zero(b, layout::RECORDERS + n * layout::RECORDER, layout::NETWORK)
 }
 
-// A recorder's places in m views, and zeros.
+// A recorder's endpoints in m views, and zeros.
 fn valid_row(b: &[u8], at: usize, m: usize) -> bool
     requires { ⌜ (m ≤ maxViews) × (at + rowSize ≤ length (now b)) ⌝ }
-    ensures { λ r. ⌜ r ≡ cells placeForm m maxViews .valid (part at rowSize (now (b .entry))) ⌝ }
+    ensures { λ r. ⌜ r ≡ cells endpointForm m maxViews .valid (part at rowSize (now (b .entry))) ⌝ }
 {
     let mut i = 0;
     while i < m {
-        if !valid_place(b, at + i * layout::PLACE) {
+        if !valid_endpoint(b, at + i * layout::ENDPOINT) {
             return false;
         }
         i += 1;
     }
-    codec::is_zero(b, at + m * layout::PLACE, at + layout::ROW)
+    codec::is_zero(b, at + m * layout::ENDPOINT, at + layout::ROW)
 }
 
-// The places of n recorders in m views, and zeros.
+// The endpoints of n recorders in m views, and zeros.
 fn valid_network(b: &[u8], n: usize, m: usize) -> bool
     requires { ⌜ (n ≤ maxRecorders) × (m ≤ maxViews) × (queuesAt ≤ length (now b)) ⌝ }
-    ensures { λ r. ⌜ r ≡ cells (cells placeForm m maxViews) n maxRecorders .valid (part networkAt networkSize (now (b .entry))) ⌝ }
+    ensures { λ r. ⌜ r ≡ cells (cells endpointForm m maxViews) n maxRecorders
+        .valid (part networkAt networkSize (now (b .entry))) ⌝ }
 {
     let mut i = 0;
     while i < n {
@@ -323,30 +292,22 @@ fn valid_queues(b: &[u8], m: usize) -> bool
     codec::is_zero(b, layout::QUEUES + m * layout::QUEUE, layout::LENGTH)
 }
 
-// The mask of recorders 1 to n.
-fn full_set(n: u8) -> u8
-    requires { ⌜ (1 ≤ n) × (n ≤ maxRecorders) ⌝ }
-    ensures { λ r. ⌜ r ≡ 2 ^ n - 1 ⌝ }
-{
-    ALL >> (RECORDERS - n)
-}
-
 // A view's number, 1 to 255, and set, "not empty and within N".
 fn valid_view(b: &[u8], at: usize, n: u8) -> bool
     requires { ⌜ (1 ≤ n) × (n ≤ maxRecorders) × (at + viewSize ≤ length (now b)) ⌝ }
     ensures { λ r. ⌜ r ≡ viewForm n .valid (part at viewSize (now (b .entry))) ⌝ }
 {
     let g = codec::get_u32(b, at);
-    both(
-        both(1 <= g, g <= limits::MAX_NUMBER),
-        valid_byte(b, at + layout::VIEW_SET, 1, full_set(n)),
-    )
+    (1 <= g)
+        & (g <= limits::MAX_NUMBER)
+        & valid_byte(b, at + layout::VIEW_SET, 1, all_of(n as u32) as u8)
 }
 
 // The m views of a hall of n recorders, and zeros.
 fn valid_view_cells(b: &[u8], m: usize, n: u8) -> bool
     requires { ⌜ (m ≤ maxViews) × (1 ≤ n) × (n ≤ maxRecorders) × (entriesAt ≤ length (now b)) ⌝ }
-    ensures { λ r. ⌜ r ≡ cells (viewForm n) m maxViews .valid (part viewCells (maxViews * viewSize) (now (b .entry))) ⌝ }
+    ensures { λ r. ⌜ r ≡ cells (viewForm n) m maxViews
+        .valid (part viewCells (maxViews * viewSize) (now (b .entry))) ⌝ }
 {
     let mut i = 0;
     while i < m {
@@ -376,6 +337,21 @@ fn views_rise(b: &[u8], m: usize) -> bool
     true
 }
 
+// The index of view g among the m formed views, m if it is not formed.
+pub fn find_view(b: &[u8], m: usize, g: u32) -> usize
+    requires { ⌜ (m ≤ maxViews) × (entriesAt ≤ length (now b)) ⌝ }
+    ensures { λ r. ⌜ Found m (now (b .entry)) g r ⌝ }
+{
+    let mut i = 0;
+    while i < m {
+        if codec::get_u32(b, layout::VIEWS + i * layout::VIEW) == g {
+            return i;
+        }
+        i += 1;
+    }
+    m
+}
+
 // "The formed views, at most 32, numbers rising, sets not empty and within N."
 fn valid_views(b: &[u8], n: u8) -> bool
     requires { ⌜ (1 ≤ n) × (n ≤ maxRecorders) × (entriesAt ≤ length (now b)) ⌝ }
@@ -385,22 +361,16 @@ fn valid_views(b: &[u8], n: u8) -> bool
     if limits::MAX_VIEWS < m {
         return false;
     }
-    both(valid_view_cells(b, m, n), views_rise(b, m))
+    valid_view_cells(b, m, n) & views_rise(b, m)
 }
 
-// The entries, recorders, places and queues of n recorders and m views.
+// The entries, recorders, endpoints and queues of n recorders and m views.
 fn valid_tables(b: &[u8], n: u8, m: usize) -> bool
     requires { ⌜ (n ≤ maxRecorders) × (m ≤ maxViews) × (storedLength ≤ length (now b)) ⌝ }
     ensures { λ r. ⌜ r ≡ tablesIn n m (now (b .entry)) ⌝ }
 {
     let k = n as usize;
-    both(
-        valid_entries(b, n),
-        both(
-            valid_recorders(b, k),
-            both(valid_network(b, k, m), valid_queues(b, m)),
-        ),
-    )
+    valid_entries(b, n) & valid_recorders(b, k) & valid_network(b, k, m) & valid_queues(b, m)
 }
 
 // Is each field in its range, in the first bytes of a slice?

@@ -9,6 +9,7 @@ use lib.ListN.{length, drop, replicate}
 use lib.Seq.{drop-drop}
 use Rattle.model.specs.Call.{Words}
 use Rattle.model.specs.RunFile.{blockAt, blocksAt, RunText, trailerOf, runPart, readText, Reading, readFile, ReadAnswer, readAnswer, NextAnswer, nextAt}
+use Rattle.runfile.specs.Answers.{offsetAfter}
 use Rattle.runfile.proofs.Read.{readable, taken, opened-run, next-end, next-act}
 
 -- what a call gives: an action, or none at the end
@@ -16,32 +17,27 @@ abbrev pub got : NextAnswer → Option Words
 got (NextAnswer.action w next) = some w
 got NextAnswer.end = none
 
--- the offset of the call after it
-abbrev pub after : ℕ → NextAnswer → ℕ
-after at (NextAnswer.action w next) = next
-after at NextAnswer.end = at
-
--- what n calls give, one after the other, the first at an offset
+-- what n calls give, one after the other: each leaves the reader at the offset after its answer
 unfoldable pub calls : ℕ → List ℕ → ℕ → List (Option Words)
 calls zero bs at = []
-calls (suc n) bs at = got (nextAt bs at) ∷ calls n bs (after at (nextAt bs at))
+calls (suc n) bs at = got (nextAt bs at) ∷ calls n bs (offsetAfter (nextAt bs at) at)
 
 -- where only the trailer is left, every call gives the end
 at-end : (n : ℕ) (bs : List ℕ) (at : ℕ) → at + 16 ≡ length bs → calls n bs at ≡ replicate n none
-unfolding calls
+unfolding calls offsetAfter
 at-end zero bs at h = refl
 at-end (suc n) bs at h =
-    ap (λ (t : NextAnswer). got t ∷ calls n bs (after at t)) (next-end bs at (omega arith))
+    ap (λ (t : NextAnswer). got t ∷ calls n bs (offsetAfter t at)) (next-end bs at (omega arith))
     ∙ ap (λ (z : List (Option Words)). none ∷ z) (at-end n bs at h)
 
 -- c actions are left: they are given, and then the end n times
 all-given : (c n : ℕ) (bs : List ℕ) (at : ℕ) → at + 16 * c + 16 ≡ length bs
     → calls (c + n) bs at ≡ map some (blocksAt c (drop at bs)) ++ replicate n none
-unfolding calls blocksAt
+unfolding calls blocksAt offsetAfter
 all-given zero n bs at h = ap (λ (m : ℕ). calls m bs at) (zero-add n) ∙ at-end n bs at (omega arith)
 all-given (suc c) n bs at h =
     ap (λ (m : ℕ). calls m bs at) (suc-add c n)
-    ∙ ap (λ (t : NextAnswer). got t ∷ calls (c + n) bs (after at t)) (next-act bs at (omega arith))
+    ∙ ap (λ (t : NextAnswer). got t ∷ calls (c + n) bs (offsetAfter t at)) (next-act bs at (omega arith))
     ∙ ap (λ (z : List (Option Words)). some (blockAt (drop at bs)) ∷ z)
     (all-given c n bs (at + 16) (omega arith)
     ∙ ap (λ (z : List ℕ). map some (blocksAt c z) ++ replicate n none) (sym (drop-drop 16 at bs)))

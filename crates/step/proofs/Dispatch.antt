@@ -39,28 +39,28 @@ wrong n number w e = refl
 wrong n set w e = refl
 
 -- what the call of kind κ with its own words asks for, and what it gives to a step with number k
-pub record Turned (b : List ℕ) (k r a d : ℕ) (κ : Kind) : Type 0 where
-  pub judged : Judged b κ (asUsed (uses κ .r) r) (asUsed (uses κ .a) a) (asUsed (uses κ .b) d)
-  pub done : (x : Answer) (c : List ℕ) → Does b κ (asUsed (uses κ .r) r) (asUsed (uses κ .a) a) (asUsed (uses κ .b) d) x c
-      → Does b (kindAt k) r a d x c
+pub record Turned (bs : List ℕ) (k r a b : ℕ) (κ : Kind) : Type 0 where
+  pub judged : Judged bs κ (asUsed (uses κ .r) r) (asUsed (uses κ .a) a) (asUsed (uses κ .b) b)
+  pub done : (x : Answer) (c : List ℕ) → Does bs κ (asUsed (uses κ .r) r) (asUsed (uses κ .a) a) (asUsed (uses κ .b) b) x c
+      → Does bs (kindAt k) r a b x c
 
-module _ (b : List ℕ) (k r a d : ℕ) (j : Judged b (kindAt k) r a d) where
-  turned : (κ : Kind) → kindAt k ≡ κ → Turned b k r a d κ
+module _ (bs : List ℕ) (k r a b : ℕ) (j : Judged bs (kindAt k) r a b) where
+  turned : (κ : Kind) → kindAt k ≡ κ → Turned bs k r a b κ
   unfolding inputRefusal
   turned κ is =
-      let words = subst (λ κ′. Judged b κ′ r a d) is j .words in
-      let n = hallOf b .size in
+      let words = subst (λ κ′. Judged bs κ′ r a b) is j .words in
+      let n = hallOf bs .size in
       let u = uses κ in
       let link-12 = link (wrongRecorder n (u .r) r) 11 _ words in
-      let link-13 = or-none (strayWord (u .a) a) (strayWord (u .b) d) (link (strayWord (u .a) a || strayWord (u .b) d) 12 _ (link-12 .1) .0) in
+      let link-13 = or-none (strayWord (u .a) a) (strayWord (u .b) b) (link (strayWord (u .a) a || strayWord (u .b) b) 12 _ (link-12 .1) .0) in
       let r-is = wrong n (u .r) r (link-12 .0) in
       let a-is = stray (u .a) a (link-13 .0) in
-      let d-is = stray (u .b) d (link-13 .1) in
+      let b-is = stray (u .b) b (link-13 .1) in
       record {
-        judged = subst (λ z. z) (λ i. Judged b (is i) (r-is i) (a-is i) (d-is i)) j;
-        done = λ x c m. subst (λ z. z) (λ i. Does b (sym is i) (sym r-is i) (sym a-is i) (sym d-is i) x c) m;
+        judged = subst (λ z. z) (λ i. Judged bs (is i) (r-is i) (a-is i) (b-is i)) j;
+        done = λ x c m. subst (λ z. z) (λ i. Does bs (sym is i) (sym r-is i) (sym a-is i) (sym b-is i) x c) m;
       }
 
   -- the kind with number n
-  pub to : (n : ℕ) → k ≡ n → Turned b k r a d (kindAt n)
+  pub to : (n : ℕ) → k ≡ n → Turned bs k r a b (kindAt n)
   to n i = turned (kindAt n) (ap kindAt i)

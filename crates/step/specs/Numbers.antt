@@ -2,8 +2,7 @@
 use Prim.Native.Nat.{ℕ}
 use mathlib.Core.Bool.{true, false}
 use mathlib.Core.List.{List}
-use Rattle.model.specs.Kinds.{KindWord, kind, noKind, kindOf}
-use Rattle.model.specs.Call.{Words}
+use Rattle.model.specs.Kinds.{kind, noKind, kindOf}
 use Rattle.store.specs.StoredForm.{isStored}
 
 -- 11: "K is not 1 to 11"

@@ -2,7 +2,6 @@
 ghost use mathlib.Core.Path.{_≡_};
 ghost use mathlib.Core.Bool.{true};
 ghost use Prim.Native.Nat.{_≤_};
-ghost use Rattle.base.specs.Chains.{_⨾_};
 ghost use Rattle.model.specs.Kinds.{lastKind};
 ghost use Rattle.store.specs.StoredForm.{isStored};
 ghost use Rattle.words.specs.Words.{kindAt};
@@ -25,26 +24,29 @@ use validity::is_hall;
 use views::enter;
 use views::form;
 use views::place_message;
+use words::first;
 use words::input_refusal;
+use words::is_outside;
+use words::refusal;
 
 // The action of kind k, its words judged.
-fn act(b: &mut [u8], k: u32, r: u32, a: u32, d: u32) -> Answer
-    requires { ⌜ Judged (now b) (kindAt k) r a d × (1 ≤ k) × (k ≤ lastKind) ⌝ }
-    ensures { λ x. ⌜ Does (now (b .entry)) (kindAt k) r a d x (now (b .exit)) ⌝ }
+fn act(bytes: &mut [u8], k: u32, r: u32, a: u32, b: u32) -> Answer
+    requires { ⌜ Judged (now bytes) (kindAt k) r a b × (1 ≤ k) × (k ≤ lastKind) ⌝ }
+    ensures { λ x. ⌜ Does (now (bytes .entry)) (kindAt k) r a b x (now (bytes .exit)) ⌝ }
 {
     match k {
-        kinds::SUBMIT => submit(b, r, a),
-        kinds::LABEL => label(b, r),
-        kinds::SEND_ENTRY => send_entry(b, r),
-        kinds::SEND_SUMMARY => send_summary(b, r),
-        kinds::FORM => form(b, a, d),
-        kinds::ENTER => enter(b, r, a),
-        kinds::ORDER => place_message(b, r, a),
-        kinds::RECEIVE => receive(b, r),
-        kinds::NOTICE => notice(b, r),
-        kinds::CONFIRM => confirm(b, r),
+        kinds::SUBMIT => submit(bytes, r, a),
+        kinds::LABEL => label(bytes, r),
+        kinds::SEND_ENTRY => send_entry(bytes, r),
+        kinds::SEND_SUMMARY => send_summary(bytes, r),
+        kinds::FORM => form(bytes, a, b),
+        kinds::ENTER => enter(bytes, r, a),
+        kinds::PLACE => place_message(bytes, r, a),
+        kinds::RECEIVE => receive(bytes, r),
+        kinds::NOTICE => notice(bytes, r),
+        kinds::CONFIRM => confirm(bytes, r),
         // kinds::DELIVER
-        _ => deliver(b, r),
+        _ => deliver(bytes, r),
     }
 }
 
@@ -52,55 +54,41 @@ fn act(b: &mut [u8], k: u32, r: u32, a: u32, d: u32) -> Answer
 fn kind_refusal(k: u32) -> u32
     ensures { λ n. ⌜ n ≡ kindNumber k ⌝ }
 {
-    if k < 1 {
-        return refusals::KIND;
-    }
-    if kinds::LAST_KIND < k {
-        refusals::KIND
-    } else {
-        0
-    }
+    refusal(is_outside(1, kinds::LAST_KIND, k), refusals::KIND)
 }
 
 // 31: "the bytes are no hall's stored form".
-pub fn bytes_refusal(b: &[u8]) -> u32
-    ensures { λ n. ⌜ n ≡ bytesNumber (now (b .entry)) ⌝ }
+pub fn bytes_refusal(bytes: &[u8]) -> u32
+    ensures { λ n. ⌜ n ≡ bytesNumber (now (bytes .entry)) ⌝ }
 {
-    if is_hall(b) { 0 } else { refusals::BYTES }
-}
-
-// The first of two refusals, 0 for none.
-fn first(one: u32, two: u32) -> u32
-    ensures { λ n. ⌜ n ≡ one ⨾ two ⌝ }
-{
-    if one == 0 { two } else { one }
+    if is_hall(bytes) { 0 } else { refusals::BYTES }
 }
 
 // A step on bytes that are known to hold a hall: they are not checked again. For the crates of this repository.
-pub fn step_hall(b: &mut [u8], k: u32, r: u32, a: u32, d: u32) -> Answer
-    requires { ⌜ isStored (now b) ≡ true ⌝ }
-    ensures { λ x. ⌜ Steps (now (b .entry)) k r a d x (now (b .exit)) ⌝ }
+pub fn step_hall(bytes: &mut [u8], k: u32, r: u32, a: u32, b: u32) -> Answer
+    requires { ⌜ isStored (now bytes) ≡ true ⌝ }
+    ensures { λ x. ⌜ Steps (now (bytes .entry)) k r a b x (now (bytes .exit)) ⌝ }
 {
     let kind = kind_refusal(k);
     if kind != 0 {
         return Answer::Refused(kind);
     }
-    let why = input_refusal(size(b), k, r, a, d);
+    let why = input_refusal(size(bytes), k, r, a, b);
     if why != 0 {
         return Answer::Refused(why);
     }
-    act(b, k, r, a, d)
+    act(bytes, k, r, a, b)
 }
 
-// A step on any bytes: kind k, recorder r, arguments a and d.
-pub fn step(b: &mut [u8], k: u32, r: u32, a: u32, d: u32) -> Answer
-    ensures { λ x. ⌜ Steps (now (b .entry)) k r a d x (now (b .exit)) ⌝ }
+// A step on any bytes: kind k, recorder r, arguments a and b.
+pub fn step(bytes: &mut [u8], k: u32, r: u32, a: u32, b: u32) -> Answer
+    ensures { λ x. ⌜ Steps (now (bytes .entry)) k r a b x (now (bytes .exit)) ⌝ }
 {
     let kind = kind_refusal(k);
-    let bytes = bytes_refusal(b);
-    let why = first(kind, bytes);
+    let stored = bytes_refusal(bytes);
+    let why = first(kind, stored);
     if why != 0 {
         return Answer::Refused(why);
     }
-    step_hall(b, k, r, a, d)
+    step_hall(bytes, k, r, a, b)
 }

@@ -17,18 +17,18 @@ use Rattle.codec.specs.Pair.{given}
 use Rattle.codec.specs.Table.{Tabled, table}
 use Rattle.codec.proofs.TableLaws.{all-keys, each-key}
 use Rattle.store.specs.Valid.{QueueIn, InRange, ValidHall}
-use Rattle.store.specs.Cells.{RecorderCell, blankRecorder, recorderAt, PlaceCell, blankPlace, placeAt}
-use Rattle.store.specs.CellForms.{recorderForm, placeForm, queueForm}
+use Rattle.store.specs.Cells.{RecorderCell, blankRecorder, recorderAt, EndpointCell, blankEndpoint, endpointAt}
+use Rattle.store.specs.CellForms.{recorderForm, endpointForm, queueForm}
 use Rattle.store.specs.ViewForm.{viewsForm}
 use Rattle.store.specs.HallForm.{recordersForm, rowForm, networkForm, queuesForm, bodyForm, afterSize, fields, hallFields, hallForm}
-use Rattle.store.proofs.Ranges.{outside-keys, numbered, numbered-in, numbered-out, entries-ok, recorder-ok, recorder-blank, place-ok, place-blank, queue-ok}
+use Rattle.store.proofs.Ranges.{outside-keys, numbered, numbered-in, numbered-out, entries-ok, recorder-ok, recorder-blank, endpoint-ok, endpoint-blank, queue-ok}
 
 module _ (h : Hall) where
   abbrev created : List ℕ
   created = h .service .created
 
-  abbrev place : ℕ → ℕ → PlaceCell
-  place = placeAt (h .service) (h .summaries)
+  abbrev endpoint : ℕ → ℕ → EndpointCell
+  endpoint = endpointAt (h .service) (h .summaries)
 
   abbrev recorder : ℕ → RecorderCell
   recorder = recorderAt (h .service .current) (h .recorders)
@@ -46,12 +46,12 @@ module _ (h : Hall) where
               (λ r l u. recorder-ok (h .service .current) (h .recorders) r .0 (w .recorder r l u))
               (λ r o. recorder-blank (h .service .current) (h .recorders) r .0 (w .recorderBlank r o)),
           (
-            numbered (rowForm created) (h .size) maxRecorders (λ g. blankPlace) place
+            numbered (rowForm created) (h .size) maxRecorders (λ g. blankEndpoint) endpoint
                 (λ p l u. record {
-                  inside = all-keys (placeForm .ok) (place p) created (λ g k. place-ok (h .service) (h .summaries) p g .0 (w .place p g l u k));
-                  outside = λ g k. place-blank (h .service) (h .summaries) p g .0 (w .placeBlank p g (inr k));
+                  inside = all-keys (endpointForm .ok) (endpoint p) created (λ g k. endpoint-ok (h .service) (h .summaries) p g .0 (w .endpoint p g l u k));
+                  outside = λ g k. endpoint-blank (h .service) (h .summaries) p g .0 (w .endpointBlank p g (inr k));
                 })
-                (λ p o. fun-ext (λ g. place-blank (h .service) (h .summaries) p g .0 (w .placeBlank p g (inl o)))),
+                (λ p o. fun-ext (λ g. endpoint-blank (h .service) (h .summaries) p g .0 (w .endpointBlank p g (inl o)))),
             record {
               inside = all-keys (queueForm .ok) (h .service .queue) created (λ g k. queue-ok (h .service .queue g) .0 (w .queueLength g, w .queue g));
               outside = w .queueBlank;
@@ -63,7 +63,7 @@ module _ (h : Hall) where
   )
 
   module _ (o : hallFields .ok h) where
-    rows : Tabled (rowForm created) (numbers 1 (h .size)) maxRecorders (λ g. blankPlace) place
+    rows : Tabled (rowForm created) (numbers 1 (h .size)) maxRecorders (λ g. blankEndpoint) endpoint
     unfolding hallFields renamed mapped fields afterSize bodyForm given number viewsForm recordersForm networkForm rowForm queuesForm table
     rows = o .1 .1 .1 .1 .0
 
@@ -71,17 +71,17 @@ module _ (h : Hall) where
     unfolding hallFields renamed mapped fields afterSize bodyForm given number viewsForm recordersForm networkForm rowForm queuesForm table
     queues = o .1 .1 .1 .1 .1
 
-    row : (p : ℕ) → 1 ≤ p → p ≤ h .size → Tabled placeForm created maxViews blankPlace (place p)
+    row : (p : ℕ) → 1 ≤ p → p ≤ h .size → Tabled endpointForm created maxViews blankEndpoint (endpoint p)
     unfolding rowForm table mapped
-    row = numbered-in (rowForm created) (h .size) maxRecorders (λ g. blankPlace) place rows
+    row = numbered-in (rowForm created) (h .size) maxRecorders (λ g. blankEndpoint) endpoint rows
 
-    blank-place : (p g : ℕ) → ((p ≡ 0) ⊎ (h .size < p)) ⊎ (has created g ≡ false) → place p g ≡ blankPlace
-    blank-place p g c = ⊎-elim above unformed c
+    blank-endpoint : (p g : ℕ) → ((p ≡ 0) ⊎ (h .size < p)) ⊎ (has created g ≡ false) → endpoint p g ≡ blankEndpoint
+    blank-endpoint p g c = ⊎-elim above unformed c
       where
-        above : (p ≡ 0) ⊎ (h .size < p) → place p g ≡ blankPlace
-        above z = ap (λ (f : ℕ → PlaceCell). f g) (numbered-out (rowForm created) (h .size) maxRecorders (λ g. blankPlace) place rows p z)
+        above : (p ≡ 0) ⊎ (h .size < p) → endpoint p g ≡ blankEndpoint
+        above z = ap (λ (f : ℕ → EndpointCell). f g) (numbered-out (rowForm created) (h .size) maxRecorders (λ g. blankEndpoint) endpoint rows p z)
 
-        unformed : has created g ≡ false → place p g ≡ blankPlace
+        unformed : has created g ≡ false → endpoint p g ≡ blankEndpoint
         unformed z = by-cases (has (numbers 1 (h .size)) p)
             (λ k. let r = numbers-range 1 (h .size) p k in row p (r .0) (omega arith) .outside g z)
             (λ k. above (outside-keys (h .size) p .1 k))
@@ -102,9 +102,9 @@ module _ (h : Hall) where
               (numbered-in recorderForm (h .size) maxRecorders blankRecorder recorder (o .1 .1 .1 .0) r l u);
           recorderBlank = λ r z. recorder-blank (h .service .current) (h .recorders) r .1
               (numbered-out recorderForm (h .size) maxRecorders blankRecorder recorder (o .1 .1 .1 .0) r z);
-          place = λ p g l u k. place-ok (h .service) (h .summaries) p g .1
-              (each-key (placeForm .ok) (place p) created (row p l u .inside) g k);
-          placeBlank = λ p g c. place-blank (h .service) (h .summaries) p g .1 (blank-place p g c);
+          endpoint = λ p g l u k. endpoint-ok (h .service) (h .summaries) p g .1
+              (each-key (endpointForm .ok) (endpoint p) created (row p l u .inside) g k);
+          endpointBlank = λ p g c. endpoint-blank (h .service) (h .summaries) p g .1 (blank-endpoint p g c);
           queueLength = λ g. queue-in g .0;
           queue = λ g. queue-in g .1;
           queueBlank = queues .outside;

@@ -21,7 +21,7 @@ use Rattle.model.specs.Ordering.{Choice, shortorder, fullorder, builtOrder, bui
 use Rattle.model.specs.Refusals.{Rules, isPrimary, summariesOf, orderFull, builtTooLong, noRoomToReceive, sequenceFull, bufferFull, newLabelExists, summaryPlaceFull, pendingFull, queueFull}
 use Rattle.model.specs.Actions.{doSubmit, doForm}
 use Rattle.model.proofs.Accepting.Room.{isFull, Fits}
-use Rattle.model.proofs.Accepting.Moves.{current, membersOf, At, queued, CanLabel, afterLabel, CanSendEntry, afterSendEntry, CanSendSummary, afterSendSummary, CanForm, CanEnter, afterEnter, CanOrder, afterOrder, CanReceive, afterReceive, learnt, joined, told, CanNotice, afterNotice, safeFrom, builtAt, heardOrder, CanConfirm, CanDeliver, Move, submits, labels, sendsEntry, sendsSummary, forms, enters, orders, receives, receivesPrimary, hears, hearsLast, notices, noticesPrimary, noticesSummary, noticesLast, confirms, delivers}
+use Rattle.model.proofs.Accepting.Moves.{current, membersOf, At, queued, CanLabel, afterLabel, CanSendEntry, afterSendEntry, CanSendSummary, afterSendSummary, CanForm, CanEnter, afterEnter, CanPlace, afterPlace, CanReceive, afterReceive, learnt, joined, told, CanNotice, afterNotice, safeFrom, builtAt, heardOrder, CanConfirm, CanDeliver, Move, submits, labels, sendsEntry, sendsSummary, forms, enters, places, receives, receivesPrimary, hears, hearsLast, notices, noticesPrimary, noticesSummary, noticesLast, confirms, delivers}
 use Rattle.model.proofs.ServiceLaws.{order-queue, order-pending}
 use Rattle.model.proofs.Ordering.Waiting.{first-waiting}
 use Rattle.model.proofs.Ordering.FullOrder.{known-from, full-in}
@@ -253,7 +253,7 @@ module _ (h : Hall) (f : Facts h) where
       })
       (f .sums) (f .traffic) (f .next) (f .nextSafe)
 
-  keep-order : (r a : ℕ) (m : Message) → CanOrder h r a m → queueFull h a ≡ false → Facts (afterOrder h r a)
+  keep-order : (r a : ℕ) (m : Message) → CanPlace h r a m → queueFull h a ≡ false → Facts (afterPlace h r a)
   unfolding vsOrder queueFull
   keep-order r a m c room =
       with-service h f _ _ _ _
@@ -422,7 +422,7 @@ facts-keep rules h _ (sendsEntry r e c) room carried f = keep-send-entry h f r e
 facts-keep rules h _ (sendsSummary r c) room carried f = keep-send-summary h f r c room
 facts-keep rules h _ (forms a b c) room carried f = keep-form h f a b c
 facts-keep rules h _ (enters r a c) room carried f = keep-enter h f r a c
-facts-keep rules h _ (orders r a m c) room carried f = keep-order h f r a m c room
+facts-keep rules h _ (places r a m c) room carried f = keep-order h f r a m c room
 facts-keep rules h _ (receives r q e c t) room carried f = keep-learnt rules h f r q e c
 facts-keep rules h _ (receivesPrimary r q e c t) room carried f = keep-joined rules h f r q e c t room
 facts-keep rules h _ (hears r q c t) room carried f = keep-told rules h f r q c

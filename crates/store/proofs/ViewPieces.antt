@@ -15,14 +15,14 @@ use Rattle.codec.proofs.NumberLaws.{byte-lawful}
 use Rattle.codec.proofs.BoundedLaws.{bounded-count, bounded-cell}
 use Rattle.codec.proofs.Piece.{View, head, tail, inner-view, mapped-view, guarded-view, restated-view}
 use Rattle.store.specs.Layout.{viewsAt, viewCells, viewSize}
-use Rattle.store.specs.Cells.{entryAt, recorderAt, placeAt}
+use Rattle.store.specs.Cells.{entryAt, recorderAt, endpointAt}
 use Rattle.store.specs.ViewForm.{ViewsOk, toViews, fromViews, viewForm, numbersRise, viewList, viewsForm}
 use Rattle.store.specs.HallForm.{bodyForm, afterSize, fields, toHall, fromHall, viewsOf, hallFields}
 use Rattle.store.proofs.ViewFormLaws.{view-lawful, views-inverse}
 
 -- N
 pub size-view : View hallFields (byte 1 maxRecorders) 0 (λ h. Unit {0}) (λ h. h .size)
-unfolding hallFields renamed fields entryAt recorderAt placeAt
+unfolding hallFields renamed fields entryAt recorderAt endpointAt
 size-view =
     mapped-view toHall fromHall (λ h. fields .ok (fromHall h)) (renaming fields toHall fromHall (λ h. refl) (λ t. refl))
     (head (byte 1 maxRecorders) afterSize)
@@ -35,7 +35,7 @@ getD-map f (x ∷ xs) (suc i) d e h = getD-map f xs i d e (le-of-suc-le-suc h)
 -- the formed views of a hall of n recorders
 module _ (n : ℕ) (l : n ≤ maxRecorders) where
   views-view : View hallFields (viewsForm n) viewsAt (λ h. h .size ≡ n) viewsOf
-  unfolding hallFields renamed fields afterSize entryAt recorderAt placeAt
+  unfolding hallFields renamed fields afterSize entryAt recorderAt endpointAt
   views-view =
       restated-view
       (mapped-view toHall fromHall (λ h. fields .ok (fromHall h)) (renaming fields toHall fromHall (λ h. refl) (λ t. refl))
@@ -53,7 +53,7 @@ module _ (n : ℕ) (l : n ≤ maxRecorders) where
       (λ h. h .size ≡ n) (λ h. length (h .service .created))
       (λ h o e. (e, tt)) (λ h o e. length-map (h .service .created) (λ (g : ℕ). (g, h .service .members g)))
 
-  -- number and set of the view at place i
+  -- number and set of the view at index i
   pub view-view : (i : ℕ) → View hallFields (viewForm n) (viewCells + i * viewSize) (λ h. (h .size ≡ n) × (i < length (h .service .created)))
       (λ h. (getD (h .service .created) i 0, h .service .members (getD (h .service .created) i 0)))
   unfolding viewsForm viewList

@@ -83,21 +83,21 @@ pub const SUMMARY_HIGH: usize = SUMMARY_CONFIRM + 1;
 
 pub const SUMMARY: usize = SUMMARY_HIGH + NUMBER;
 
-// A place for a summary: sent or not, and the summary.
+// An endpoint for a summary: sent or not, and the summary.
 pub const SENT: usize = 1 + SUMMARY;
 
-// A recorder's place in a view: pending, receive mark, safe mark, sent, summary.
-pub const PLACE_NEXT: usize = PENDING;
+// A recorder's endpoint in a view: pending, receive mark, safe mark, sent, summary.
+pub const ENDPOINT_NEXT: usize = PENDING;
 
-pub const PLACE_NEXT_SAFE: usize = PLACE_NEXT + 1;
+pub const ENDPOINT_NEXT_SAFE: usize = ENDPOINT_NEXT + 1;
 
-pub const PLACE_SENT: usize = PLACE_NEXT_SAFE + 1;
+pub const ENDPOINT_SENT: usize = ENDPOINT_NEXT_SAFE + 1;
 
-pub const PLACE_SUMMARY: usize = PLACE_SENT + 1;
+pub const ENDPOINT_SUMMARY: usize = ENDPOINT_SENT + 1;
 
-pub const PLACE: usize = PLACE_SUMMARY + SUMMARY;
+pub const ENDPOINT: usize = ENDPOINT_SUMMARY + SUMMARY;
 
-pub const ROW: usize = MAX_VIEWS * PLACE;
+pub const ROW: usize = MAX_VIEWS * ENDPOINT;
 
 // A queue: its length, and messages: source, message.
 pub const QUEUED_MESSAGE: usize = 1;
@@ -109,7 +109,7 @@ pub const MESSAGES: usize = MAX_QUEUE * QUEUED;
 pub const QUEUE: usize = 1 + MESSAGES;
 
 // The whole: N; the formed views, their count first; the entries, their count first; the recorders, recorder r in cell
-// r - 1; the network, a row of places for each recorder, by place among the formed views; the queues, by place likewise.
+// r - 1; the network, a row of endpoints for each recorder, by index among the formed views; the queues, by index likewise.
 pub const VIEW_COUNT: usize = 1;
 
 pub const VIEWS: usize = VIEW_COUNT + 1;

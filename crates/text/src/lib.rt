@@ -3,7 +3,8 @@
 ghost use mathlib.Core.List.{[], _∷_};
 ghost use Rattle.model.specs.Listing.{decimal};
 ghost use Rattle.text.specs.Text.{Room, Wrote, Sized};
-ghost use Rattle.text.specs.Fields.{numberText, lastText, lastTwoText, labelField, maxDecimal, maxLast, maxLastTwo, maxLabel};
+ghost use Rattle.text.specs.Fields.{numberText, lastText, lastTwoText, labelField};
+ghost use Rattle.text.specs.Fields.{maxDecimal, maxLast, maxLastTwo, maxLabel};
 
 const SPACE: u8 = 32;
 

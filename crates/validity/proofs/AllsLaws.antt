@@ -1,4 +1,4 @@
--- Laws of specs/Alls. Assumes nothing.
+-- Loops that test each number of a list. Assumes nothing.
 use Prim.Native.Nat.{ℕ, suc, _+_, _-_, _*_, _≤_, _<_}
 use native.Mathlib.Omega.{arith}
 use native.Mathlib.Numerals.{add-one}
@@ -7,17 +7,15 @@ use mathlib.Core.Bool.{Bool, true, false, _&&_, and-eq-true-iff, and-assoc, and-
 use mathlib.Core.Logic.{⊎-elim}
 use mathlib.Core.List.{List, [], _∷_, _++_}
 use lib.ListN.{length, getD}
-use borrow.Author.Tests.{ne-eqb}
 use Rattle.base.specs.Lists.{has, all}
 use Rattle.base.specs.Numbers.{upTo}
 use Rattle.base.proofs.Bools.{by-cases}
-use Rattle.base.proofs.ListsLaws.{has-head, has-later, has-cons, has-there}
+use Rattle.base.proofs.ListsLaws.{has-head, has-later, has-cons}
 use Rattle.base.proofs.NumbersLaws.{has-upTo}
 use Rattle.codec.specs.Bytes.{part}
 use Rattle.codec.proofs.BytesLaws.{part-rest}
 use Rattle.store.specs.Layout.{viewSize, viewCells}
-use Rattle.ranges.specs.TableParts.{viewNumbers}
-use Rattle.validity.specs.Alls.{viewAt}
+use Rattle.ranges.specs.TableParts.{viewNumbers, viewAt}
 
 -- two tests that agree on a list
 pub all-same : (p q : ℕ → Bool) (xs : List ℕ) → ((x : ℕ) → has xs x ≡ true → p x ≡ q x) → all p xs ≡ all q xs
@@ -86,7 +84,7 @@ module _ (p : ℕ → Bool) where
 
 -- a loop over the views
 module _ (m : ℕ) (b : List ℕ) where
-  -- the numbers from place i on
+  -- the numbers from index i on
   abbrev pub viewsFrom : ℕ → List ℕ
   viewsFrom i = viewNumbers (m - i) (viewCells + i * viewSize) b
 
@@ -122,14 +120,3 @@ module _ (m : ℕ) (b : List ℕ) where
     pub views-none : (i : ℕ) → m ≤ i → all p (viewsFrom i) ≡ true
     unfolding all
     views-none i h = ap (all p) (views-end i h)
-
-  -- a search for the view g: those from i on have g just where all have it
-  module _ (g i : ℕ) where
-    pub search-next : i < m → (viewAt b i ≡ g → ⊥) → has (viewsFrom i) g ≡ has (viewsFrom (i + 1)) g
-    search-next h ne =
-        ap (λ (xs : List ℕ). has xs g) (views-from i h)
-        ∙ has-there (viewAt b i) (viewsFrom (i + 1)) g (ne-eqb g (viewAt b i) (λ e. ne (sym e)))
-
-    pub search-end : m ≤ i → has (viewsFrom i) g ≡ false
-    unfolding has
-    search-end h = ap (λ (xs : List ℕ). has xs g) (views-end i h)

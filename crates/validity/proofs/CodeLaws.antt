@@ -2,7 +2,7 @@
 use Prim.Native.Nat.{ℕ, _+_, _-_, _*_, _≤_, _<_}
 use native.Mathlib.Omega.{arith}
 use mathlib.Core.Path.{_≡_, refl, sym, ap, ap₂, _∙_}
-use mathlib.Core.Bool.{Bool, true, false, not, _&&_, _||_, or-true}
+use mathlib.Core.Bool.{Bool, true, false, not, _&&_, _||_, or-true, and-assoc}
 use mathlib.Core.List.{List}
 use lib.Dec.{eqb, ltb}
 use lib.ListN.{length, getD, take, set, getD-replicate, List·getD-eq-default}
@@ -120,10 +120,16 @@ module _ (b : List ℕ) (K : Held hallFields b) (d e : ℕ) (dl : 1 ≤ d) (du :
   pub apart-none : getD b (entryCells + (d - 1) * entrySize + entrySequenceAt) 0 ≡ 0 → apart (raw b .entries) d e ≡ true
   apart-none h = by-bytes ∙ rw (eq-eqb (getD b (entryCells + (d - 1) * entrySize + entrySequenceAt) 0) 0 h) (or-true (eqb d e))
 
-  pub apart-labels : (d ≡ e → ⊥) → (getD b (entryCells + (d - 1) * entrySize + entrySequenceAt) 0 ≡ 0 → ⊥) → apart (raw b .entries) d e
-      ≡ not (eqb (value (part (entryCells + (d - 1) * entrySize + entryLabelAt) numberSize b)) (value (part (entryCells + (e - 1) * entrySize + entryLabelAt) numberSize b))
-      && (eqb (getD b (entryCells + (d - 1) * entrySize + entrySequenceAt) 0) (getD b (entryCells + (e - 1) * entrySize + entrySequenceAt) 0) && eqb (getD b (entryCells + (d - 1) * entrySize) 0) (getD b (entryCells + (e - 1) * entrySize) 0)))
-  apart-labels h k = by-bytes ∙ rw (ne-eqb d e h, ne-eqb (getD b (entryCells + (d - 1) * entrySize + entrySequenceAt) 0) 0 k)
+  -- as the code has it: v and w are the view numbers that it reads
+  pub apart-labels : (v w : ℕ) → v ≡ value (part (entryCells + (d - 1) * entrySize + entryLabelAt) numberSize b) → w ≡ value (part (entryCells + (e - 1) * entrySize + entryLabelAt) numberSize b)
+      → (d ≡ e → ⊥) → (getD b (entryCells + (d - 1) * entrySize + entrySequenceAt) 0 ≡ 0 → ⊥)
+      → not (eqb v w && eqb (getD b (entryCells + (d - 1) * entrySize + entrySequenceAt) 0) (getD b (entryCells + (e - 1) * entrySize + entrySequenceAt) 0) && eqb (getD b (entryCells + (d - 1) * entrySize) 0) (getD b (entryCells + (e - 1) * entrySize) 0))
+      ≡ apart (raw b .entries) d e
+  apart-labels v w p q h k =
+      let s = eqb (getD b (entryCells + (d - 1) * entrySize + entrySequenceAt) 0) (getD b (entryCells + (e - 1) * entrySize + entrySequenceAt) 0) in
+      let t = eqb (getD b (entryCells + (d - 1) * entrySize) 0) (getD b (entryCells + (e - 1) * entrySize) 0) in
+      ap not (and-assoc (eqb v w) s t ∙ ap₂ (λ (x y : ℕ). eqb x y && (s && t)) p q)
+      ∙ sym (by-bytes ∙ rw (ne-eqb d e h, ne-eqb (getD b (entryCells + (d - 1) * entrySize + entrySequenceAt) 0) 0 k))
 
 -- ## Queued messages
 

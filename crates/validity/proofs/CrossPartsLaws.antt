@@ -15,7 +15,7 @@ use Rattle.base.proofs.Bools.{by-cases}
 use Rattle.base.proofs.NumbersLaws.{upTo-range, has-upTo}
 use Rattle.quorum.specs.Sets.{members}
 use Rattle.quorum.proofs.SetLaws.{members-range}
-use Rattle.model.specs.Hall.{maxEntries, Entries, Message, Message.summary, Queued, Summary, Hall, maxBuffer, maxOrder, maxRecorders}
+use Rattle.model.specs.Hall.{maxEntries, Message.summary, Queued, maxBuffer, maxOrder, maxRecorders}
 use Rattle.model.specs.Opening.{blankSummary}
 use Rattle.model.specs.Ordering.{isLabelled, numbers}
 use Rattle.codec.specs.Bytes.{part}
@@ -28,22 +28,21 @@ use Rattle.codec.specs.Table.{flags}
 use Rattle.codec.proofs.BytesLaws.{part-cons}
 use Rattle.codec.proofs.CellsLaws.{length-decodeAll}
 use Rattle.codec.proofs.ByteListLaws.{decode-list, valid-list-count}
-use Rattle.store.specs.Layout.{entryCells, entrySize, recordersAt, recorderSize, queuesAt, queueSize, numberSize, payloadSize, entryPayloadAt, entryLabelAt, entrySequenceAt, listSize, recorderBufferAt, recorderOrderAt, recorderKnownAt, recorderSafeAt, recorderHeardAt, recorderSafeSourcesAt, summaryOrderAt, placeSummaryAt}
-use Rattle.store.specs.Valid.{labelsApart, labelledEntry, listNames, setNames, messageNames, messagesName, queueNames, summaryNames, recorderCross, placeCross, crossRules}
+use Rattle.store.specs.Layout.{entryCells, entrySize, recordersAt, recorderSize, queuesAt, queueSize, numberSize, payloadSize, entryPayloadAt, entryLabelAt, entrySequenceAt, listSize, recorderBufferAt, recorderOrderAt, recorderKnownAt, recorderSafeAt, recorderHeardAt, recorderSafeSourcesAt, summaryOrderAt, endpointSummaryAt}
+use Rattle.store.specs.Valid.{labelsApart, labelledEntry, listNames, setNames, messageNames, messagesName, queueNames, summaryNames, recorderCross, endpointCross, crossRules}
 use Rattle.store.specs.Cells.{EntryCell, RecorderCell, entryAt, recorderAt}
 use Rattle.store.specs.CellForms.{messageForm, queuedForm, recorderForm}
 use Rattle.store.specs.HallForm.{hallFields}
 use Rattle.store.proofs.CellFormsLaws.{message-lawful}
-use Rattle.ranges.specs.TableParts.{viewNumbers}
-use Rattle.validity.specs.Alls.{viewAt, Found}
-use Rattle.validity.specs.Marks.{messageMarked, flagAt, placeOff, sentAt, setOk, sourceOk, heardOk}
+use Rattle.ranges.specs.TableParts.{viewNumbers, viewAt, Found}
+use Rattle.validity.specs.Marks.{messageMarked, flagAt, endpointOff, sentAt, setOk, sourceOk, heardOk}
 use Rattle.validity.specs.RawHall.{raw, sizeAt, viewCount, entryCount, setAt}
 use Rattle.validity.specs.CrossParts.{Labels, queuedOk, summaryOk, apart, viewCross}
 use Rattle.validity.proofs.AllsLaws.{all-same, all-true}
 use Rattle.validity.proofs.MarksLaws.{marked-low, message-summary, message-entry, flags-at}
 use Rattle.validity.proofs.Values.{viewNumber-value, summary-value, recorder-value, messageOf, message-value, queued-value}
 use Rattle.validity.proofs.RawHallLaws.{set-in, set-out, no-members, long, size-in, raw-size, raw-created, raw-count, raw-entry, view-members, found-members}
-use Rattle.validity.proofs.RawCells.{raw-recorder, recorder-lists, queue-list, place-room, pending-count, pending-list, raw-sent, summary-none, summary-some, summary-list}
+use Rattle.validity.proofs.RawCells.{raw-recorder, recorder-lists, queue-list, endpoint-room, pending-count, pending-list, raw-sent, summary-none, summary-some, summary-list}
 
 -- ## Entries
 
@@ -126,7 +125,7 @@ module _ (b : List ℕ) (K : Held hallFields b) (l : List ℕ) (M : Labels (raw 
       (ap (λ (x : List ℕ). messagesName (raw b) q g (decodeAll messageForm c x)) (drop-drop 1 o b) ∙ messages-names q g c (o + 1) (omega arith))
       ∙ sym (ap (all (messageMarked l (raw b .summaries .sent q g))) (part-cons o c b (omega arith)))
 
-  -- ## The view at place i
+  -- ## The view at index i
 
   module _ (i : ℕ) (k : i < viewCount b) where
     set-members : (q : ℕ) → has (raw b .service .members (viewAt b i)) q ≡ has (members (sizeAt b) (setAt b i)) q
@@ -196,60 +195,60 @@ module _ (b : List ℕ) (K : Held hallFields b) (l : List ℕ) (M : Labels (raw 
         ap (queueNames (raw b) (viewAt b i)) (queue-list b K i k)
         ∙ ap₂ (λ (m o : ℕ). queueNames (raw b) (viewAt b i) (decodeAll queuedForm m (drop o b))) n e
 
-    -- recorder p's place
+    -- recorder p's endpoint
     module _ (p : ℕ) (lo : 1 ≤ p) (hi : p ≤ sizeAt b) where
-      pending-names : messagesName (raw b) p (viewAt b i) (raw b .service .pending p (viewAt b i)) ≡ all (messageMarked l (sentAt b p i)) (listAt b (placeOff p i))
+      pending-names : messagesName (raw b) p (viewAt b i) (raw b .service .pending p (viewAt b i)) ≡ all (messageMarked l (sentAt b p i)) (listAt b (endpointOff p i))
       pending-names =
           let c = pending-count b K i k p lo hi in
-          let r = place-room b K i k p lo hi in
+          let r = endpoint-room b K i k p lo hi in
           ap (messagesName (raw b) p (viewAt b i)) (pending-list b K i k p lo hi)
-          ∙ messages-names p (viewAt b i) (getD b (placeOff p i) 0) (placeOff p i + 1) (omega arith)
-          ∙ ap (λ (t : Bool). all (messageMarked l t) (listAt b (placeOff p i))) (raw-sent b K i k p lo hi)
+          ∙ messages-names p (viewAt b i) (getD b (endpointOff p i) 0) (endpointOff p i + 1) (omega arith)
+          ∙ ap (λ (t : Bool). all (messageMarked l t) (listAt b (endpointOff p i))) (raw-sent b K i k p lo hi)
 
       none-names : summaryNames (raw b .entries) blankSummary ≡ true
       unfolding summaryNames setNames listNames blankSummary all
       none-names = ap (λ (t : Bool). t && true) (all-true _ (upTo maxEntries) (λ e h. refl))
 
-      summary-names : summaryNames (raw b .entries) (raw b .summaries .summary p (viewAt b i)) ≡ summaryOk l b (placeOff p i)
+      summary-names : summaryNames (raw b .entries) (raw b .summaries .summary p (viewAt b i)) ≡ summaryOk l b (endpointOff p i)
       unfolding summaryOk summaryNames
       summary-names = by-cases (sentAt b p i) some nothing
         where
           off : ℕ
-          off = placeOff p i
+          off = endpointOff p i
 
-          some : sentAt b p i ≡ true → summaryNames (raw b .entries) (raw b .summaries .summary p (viewAt b i)) ≡ summaryOk l b (placeOff p i)
+          some : sentAt b p i ≡ true → summaryNames (raw b .entries) (raw b .summaries .summary p (viewAt b i)) ≡ summaryOk l b (endpointOff p i)
           some t =
-              let r = place-room b K i k p lo hi in
-              ap (summaryNames (raw b .entries)) (summary-some b K i k p lo hi t ∙ summary-value (off + placeSummaryAt) b)
-              ∙ ap₂ _&&_ (set-names (off + placeSummaryAt) (omega arith)) (list-names (off + placeSummaryAt + summaryOrderAt) (omega arith) (summary-list b K i k p lo hi t))
-              ∙ sym (ap (λ (u : Bool). not u || (all (setOk l b (off + placeSummaryAt)) (upTo maxEntries) && all (messageMarked l false) (listAt b (off + placeSummaryAt + summaryOrderAt)))) t)
+              let r = endpoint-room b K i k p lo hi in
+              ap (summaryNames (raw b .entries)) (summary-some b K i k p lo hi t ∙ summary-value (off + endpointSummaryAt) b)
+              ∙ ap₂ _&&_ (set-names (off + endpointSummaryAt) (omega arith)) (list-names (off + endpointSummaryAt + summaryOrderAt) (omega arith) (summary-list b K i k p lo hi t))
+              ∙ sym (ap (λ (u : Bool). not u || (all (setOk l b (off + endpointSummaryAt)) (upTo maxEntries) && all (messageMarked l false) (listAt b (off + endpointSummaryAt + summaryOrderAt)))) t)
 
-          nothing : sentAt b p i ≡ false → summaryNames (raw b .entries) (raw b .summaries .summary p (viewAt b i)) ≡ summaryOk l b (placeOff p i)
+          nothing : sentAt b p i ≡ false → summaryNames (raw b .entries) (raw b .summaries .summary p (viewAt b i)) ≡ summaryOk l b (endpointOff p i)
           nothing t =
               ap (summaryNames (raw b .entries)) (summary-none b K i k p lo hi t)
               ∙ none-names
-              ∙ sym (ap (λ (u : Bool). not u || (all (setOk l b (off + placeSummaryAt)) (upTo maxEntries) && all (messageMarked l false) (listAt b (off + placeSummaryAt + summaryOrderAt)))) t)
+              ∙ sym (ap (λ (u : Bool). not u || (all (setOk l b (off + endpointSummaryAt)) (upTo maxEntries) && all (messageMarked l false) (listAt b (off + endpointSummaryAt + summaryOrderAt)))) t)
 
-      pub place-member : has (members (sizeAt b) (setAt b i)) p ≡ true
-          → placeCross (raw b) (viewAt b i) p ≡ all (messageMarked l (sentAt b p i)) (listAt b (placeOff p i)) && summaryOk l b (placeOff p i)
-      unfolding placeCross
-      place-member t =
+      pub endpoint-member : has (members (sizeAt b) (setAt b i)) p ≡ true
+          → endpointCross (raw b) (viewAt b i) p ≡ all (messageMarked l (sentAt b p i)) (listAt b (endpointOff p i)) && summaryOk l b (endpointOff p i)
+      unfolding endpointCross
+      endpoint-member t =
           ap (λ (u : Bool). elim u [
             | true ↦ messagesName (raw b) p (viewAt b i) (raw b .service .pending p (viewAt b i)) && summaryNames (raw b .entries) (raw b .summaries .summary p (viewAt b i))
             | false ↦ eqb (length (raw b .service .pending p (viewAt b i))) 0 && not (raw b .summaries .sent p (viewAt b i))
           ]) (set-members p ∙ t)
           ∙ ap₂ _&&_ pending-names summary-names
 
-      pub place-other : has (members (sizeAt b) (setAt b i)) p ≡ false
-          → placeCross (raw b) (viewAt b i) p ≡ eqb (getD b (placeOff p i) 0) 0 && not (sentAt b p i)
-      unfolding placeCross
-      place-other t =
+      pub endpoint-other : has (members (sizeAt b) (setAt b i)) p ≡ false
+          → endpointCross (raw b) (viewAt b i) p ≡ eqb (getD b (endpointOff p i) 0) 0 && not (sentAt b p i)
+      unfolding endpointCross
+      endpoint-other t =
           ap (λ (u : Bool). elim u [
             | true ↦ messagesName (raw b) p (viewAt b i) (raw b .service .pending p (viewAt b i)) && summaryNames (raw b .entries) (raw b .summaries .summary p (viewAt b i))
             | false ↦ eqb (length (raw b .service .pending p (viewAt b i))) 0 && not (raw b .summaries .sent p (viewAt b i))
           ]) (set-members p ∙ t)
           ∙ ap₂ (λ (n : ℕ) (s : Bool). eqb n 0 && not s)
-          (ap length (pending-list b K i k p lo hi) ∙ length-decodeAll messageForm message-lawful (getD b (placeOff p i) 0) (drop (placeOff p i + 1) b))
+          (ap length (pending-list b K i k p lo hi) ∙ length-decodeAll messageForm message-lawful (getD b (endpointOff p i) 0) (drop (endpointOff p i + 1) b))
           (raw-sent b K i k p lo hi)
 
   -- ## Recorder r
@@ -325,7 +324,7 @@ module _ (b : List ℕ) (K : Held hallFields b) (l : List ℕ) (M : Labels (raw 
         ∙ ap (λ (j : ℕ). flags maxRecorders .decode (part j maxRecorders b) q) e
         ∙ flags-at maxRecorders (off + recorderSafeSourcesAt) b (omega arith) q ql qu
 
-    -- where its current view stands at place i, or at none
+    -- where its current view stands at index i, or at none
     module _ (i : ℕ) (f : Found (viewCount b) b (value (part (recordersAt + (r - 1) * recorderSize) numberSize b)) i) where
       abbrev set : ℕ
       set = setAt b i
@@ -366,8 +365,8 @@ module _ (b : List ℕ) (K : Held hallFields b) (l : List ℕ) (M : Labels (raw 
           && (all (messageMarked l false) (listAt b (recordersAt + (r - 1) * recorderSize + recorderBufferAt))
           && (all (messageMarked l false) (listAt b (recordersAt + (r - 1) * recorderSize + recorderOrderAt))
           && (all (setOk l b (recordersAt + (r - 1) * recorderSize + recorderSafeAt)) (upTo maxEntries)
-          && (all (heardOk b (recordersAt + (r - 1) * recorderSize + recorderHeardAt) (sizeAt b) (setAt b i) i) (upTo maxRecorders)
-          && all (sourceOk b (recordersAt + (r - 1) * recorderSize + recorderSafeSourcesAt) (sizeAt b) (setAt b i)) (upTo maxRecorders))))))
+          && (all (heardOk b (recordersAt + (r - 1) * recorderSize + recorderHeardAt) (setAt b i) i) (upTo maxRecorders)
+          && all (sourceOk b (recordersAt + (r - 1) * recorderSize + recorderSafeSourcesAt) (setAt b i)) (upTo maxRecorders))))))
       unfolding recorderCross heardOk sourceOk
       recorder-cross =
           ap₂ _&&_ (ap₂ (λ (g : ℕ) (t : Bool). eqb g 0 || t) current-at (in-set r))

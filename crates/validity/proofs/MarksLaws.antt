@@ -48,6 +48,10 @@ flag-on x t e = rw (eq-eqb 1 x e)
 pub flag-off : (x : ℕ) (t : Bool) → (1 ≡ x → ⊥) → (not (eqb 1 x) || t) ≡ true
 flag-off x t e = rw (ne-eqb 1 x e)
 
+-- nothing where it is not set: the test alone says so
+pub unset : (x : ℕ) (t : Bool) → (1 ≡ x → ⊥) → not (eqb 1 x) ≡ (not (eqb 1 x) || t)
+unset x t e = rw (ne-eqb 1 x e)
+
 -- flags, as the form has them
 lookup-number : {A : Type 0} (s n : ℕ) (xs : List A) (d : A) (j : ℕ) → s ≤ j → j < s + n → n ≤ length xs → lookup (numbers s n) d xs j ≡ getD xs (j - s) d
 unfolding lookup numbers

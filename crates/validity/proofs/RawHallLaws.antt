@@ -1,7 +1,7 @@
 -- Laws of specs/RawHall. Assumes nothing.
-use Prim.Native.Nat.{ℕ, zero, suc, _+_, _-_, _*_, _/_, _%_, _^_, _≤_, _<_}
+use Prim.Native.Nat.{ℕ, _+_, _-_, _*_, _/_, _%_, _^_, _≤_, _<_}
 use native.Mathlib.Omega.{arith}
-use native.Mathlib.Nat.{not-suc-le-zero, le-of-suc-le-suc, div-eq-of-lt}
+use native.Mathlib.Nat.{div-eq-of-lt}
 use mathlib.Core.Path.{_≡_, sym, ap, subst, _∙_}
 use mathlib.Core.Bool.{true, false, _&&_, and-false}
 use mathlib.Core.List.{List}
@@ -14,15 +14,15 @@ use Rattle.base.specs.Lists.{has}
 use Rattle.base.proofs.Bools.{by-cases}
 use Rattle.base.proofs.ListsLaws.{has-filter, key-has}
 use Rattle.quorum.specs.Sets.{members, inMask}
-use Rattle.model.specs.Hall.{maxEntries, maxRecorders, Hall, maxViews}
+use Rattle.model.specs.Hall.{maxEntries, maxRecorders, maxViews}
 use Rattle.codec.specs.Bytes.{part}
 use Rattle.codec.specs.Form.{mapped, renamed}
 use Rattle.codec.specs.Number.{value, byte}
 use Rattle.codec.specs.Pair.{pair}
 use Rattle.codec.specs.Slice.{Held, valueOf}
-use Rattle.codec.specs.Table.{place, table}
+use Rattle.codec.specs.Table.{indexOf, table}
 use Rattle.codec.proofs.SliceLaws.{value-ok, slice-value}
-use Rattle.codec.proofs.TableLaws.{key-place}
+use Rattle.codec.proofs.TableLaws.{key-index}
 use Rattle.store.specs.Layout.{storedLength, entryCells, entrySize, numberSize, wordSize, viewSetAt, viewSize, payloadSize, entryPayloadAt, viewsAt, viewCells, entriesAt, viewsSize}
 use Rattle.store.specs.Valid.{InRange}
 use Rattle.store.specs.Cells.{blankEntry, entryAt}
@@ -35,11 +35,10 @@ use Rattle.store.proofs.HallFormLaws.{hallFields-lawful}
 use Rattle.store.proofs.HallOk.{fields-ok}
 use Rattle.store.proofs.Pieces.{entry-piece}
 use Rattle.store.proofs.ViewPieces.{view-view}
-use Rattle.ranges.specs.TableParts.{viewNumbers}
+use Rattle.ranges.specs.TableParts.{viewNumbers, viewAt, Found}
 use Rattle.ranges.proofs.Parts.{given-value, byte-in}
 use Rattle.ranges.proofs.CellPartsLaws.{entry-value}
-use Rattle.ranges.proofs.TablePartsLaws.{length-viewNumbers, views-count, views-created, whole-parts}
-use Rattle.validity.specs.Alls.{viewAt, Found}
+use Rattle.ranges.proofs.TablePartsLaws.{length-viewNumbers, nth-view, found-none, views-count, views-created, whole-parts}
 use Rattle.validity.specs.RawHall.{raw, sizeAt, viewCount, entryCount, setAt, Ranged}
 use Rattle.validity.proofs.Values.{byte-value, view-value}
 
@@ -50,16 +49,6 @@ set-in b i h = rw (lt-ltb i (viewCount b) h, setAt)
 pub set-out : (b : List ℕ) (i : ℕ) → viewCount b ≤ i → setAt b i ≡ 0
 unfolding setAt
 set-out b i h = rw (le-ltb i (viewCount b) h, setAt)
-
-nth-view : (m o i : ℕ) (b : List ℕ) → i < m → getD (viewNumbers m o b) i 0 ≡ value (part (o + i * viewSize) numberSize b)
-unfolding viewNumbers
-nth-view zero o i b h = absurd (not-suc-le-zero h)
-nth-view (suc m) o zero b h =
-    let e : o + 0 * viewSize ≡ o = omega arith in
-    ap (λ (j : ℕ). value (part j numberSize b)) (sym e)
-nth-view (suc m) o (suc i) b h =
-    let e : o + viewSize + i * viewSize ≡ o + suc i * viewSize = omega arith in
-    nth-view m (o + viewSize) i b (le-of-suc-le-suc h) ∙ ap (λ (j : ℕ). value (part j numberSize b)) e
 
 pub no-members : (n q : ℕ) → has (members n 0) q ≡ false
 unfolding members inMask
@@ -126,7 +115,7 @@ module _ (b : List ℕ) (K : Held hallFields b) where
       sym (slice-value hallFields-lawful (entry-lawful n (omega (arith, size-in .1))) b K (raw-size, l, subst (λ (m : ℕ). e ≤ m) (sym raw-count) u) (entry-piece n e .view))
       ∙ entry-value n (entryCells + (e - 1) * entrySize) b (omega (arith, long))
 
-  -- the view at place i
+  -- the view at index i
   module _ (i : ℕ) (l : i < viewCount b) where
     created-length : length (raw b .service .created) ≡ viewCount b
     created-length = ap length raw-created ∙ length-viewNumbers (viewCount b) 2 b
@@ -140,10 +129,10 @@ module _ (b : List ℕ) (K : Held hallFields b) where
     pub view-formed : has (raw b .service .created) (viewAt b i) ≡ true
     view-formed = ap (has (raw b .service .created)) (sym created-nth) ∙ key-has (raw b .service .created) i inside
 
-    pub view-place : place (raw b .service .created) (viewAt b i) ≡ i
-    view-place =
-        ap (place (raw b .service .created)) (sym created-nth)
-        ∙ key-place (raw b .service .created) i (rising-distinct (raw b .service .created) (in-range .views .rises)) inside
+    pub view-index : indexOf (raw b .service .created) (viewAt b i) ≡ i
+    view-index =
+        ap (indexOf (raw b .service .created)) (sym created-nth)
+        ∙ key-index (raw b .service .created) i (rising-distinct (raw b .service .created) (in-range .views .rises)) inside
 
     pub view-members : raw b .service .members (viewAt b i) ≡ members (sizeAt b) (getD b (viewCells + i * viewSize + viewSetAt) 0)
     view-members =
@@ -154,7 +143,7 @@ module _ (b : List ℕ) (K : Held hallFields b) where
         ap (raw b .service .members) (sym created-nth)
         ∙ ap (λ (p : ℕ × List ℕ). p .1) (sym w ∙ view-value n (viewCells + i * viewSize) b o)
 
-  -- the members of the view g, where g stands at place i or at none
+  -- the members of the view g, where g stands at index i or at none
   pub found-members : (g i : ℕ) → Found (viewCount b) b g i → (q : ℕ) → has (raw b .service .members g) q ≡ has (members (sizeAt b) (setAt b i)) q
   unfolding setAt has
   found-members g i f q = by-cases (ltb i (viewCount b)) formed unformed
@@ -169,7 +158,7 @@ module _ (b : List ℕ) (K : Held hallFields b) where
       unformed : ltb i (viewCount b) ≡ false → has (raw b .service .members g) q ≡ has (members (sizeAt b) (setAt b i)) q
       unformed t =
           let l = ltb-false i (viewCount b) t in
-          ap (λ (xs : List ℕ). has xs q) (in-range .views .blank g (ap (λ (xs : List ℕ). has xs g) raw-created ∙ f .missing l))
+          ap (λ (xs : List ℕ). has xs q) (in-range .views .blank g (ap (λ (xs : List ℕ). has xs g) raw-created ∙ found-none (viewCount b) b g i f l))
           ∙ sym (no-members (sizeAt b) q)
           ∙ ap (λ (z : ℕ). has (members (sizeAt b) z) q) (sym (set-out b i l))
 

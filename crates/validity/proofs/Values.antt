@@ -17,9 +17,9 @@ use Rattle.codec.specs.Cells.{decodeAll}
 use Rattle.codec.specs.Bounded.{bounded, optional}
 use Rattle.codec.specs.Table.{flags}
 use Rattle.codec.proofs.NumberLaws.{value-byte, number-decode}
-use Rattle.store.specs.Layout.{recorderSize, placeSize, summarySize, viewSize, numberSize, listSize, summaryOrderAt, sentSize, viewSetAt, recorderPhaseAt}
-use Rattle.store.specs.Cells.{RecorderCell, PlaceCell}
-use Rattle.store.specs.CellForms.{viewNumber, entryList, summaryForm, sentForm, phaseForm, recorderForm, messageForm, placeForm, queuedForm}
+use Rattle.store.specs.Layout.{recorderSize, endpointSize, summarySize, viewSize, numberSize, listSize, summaryOrderAt, sentSize, viewSetAt, recorderPhaseAt}
+use Rattle.store.specs.Cells.{RecorderCell, EndpointCell}
+use Rattle.store.specs.CellForms.{viewNumber, entryList, summaryForm, sentForm, phaseForm, recorderForm, messageForm, endpointForm, queuedForm}
 use Rattle.store.specs.Masks.{setForm}
 use Rattle.store.specs.ViewForm.{viewForm}
 use Rattle.ranges.proofs.Parts.{given-value}
@@ -106,8 +106,8 @@ recorder-value o b =
     (pair-value (flags maxEntries) _ (o + numberSize + 1 + 1 + listSize maxBuffer + listSize maxOrder + 1 + 1 + numberSize + maxEntries) b
     (pair-value (flags maxRecorders) (flags maxRecorders) (o + numberSize + 1 + 1 + listSize maxBuffer + listSize maxOrder + 1 + 1 + numberSize + maxEntries + maxEntries) b refl)))))))))))
 
--- a place
-pub place-value : (o : ℕ) (b : List ℕ) → placeForm .decode (part o placeSize b)
+-- an endpoint
+pub endpoint-value : (o : ℕ) (b : List ℕ) → endpointForm .decode (part o endpointSize b)
     ≡ record {
       pending = bounded messageForm maxPending .decode (part o (listSize maxPending) b);
       next = mark (maxQueue + 1) .decode (part (o + listSize maxPending) 1 b);
@@ -115,9 +115,9 @@ pub place-value : (o : ℕ) (b : List ℕ) → placeForm .decode (part o placeSi
       sent = sentForm .decode (part (o + listSize maxPending + 1 + 1) sentSize b) .0;
       summary = sentForm .decode (part (o + listSize maxPending + 1 + 1) sentSize b) .1;
     }
-unfolding placeForm renamed mapped
-place-value o b =
-    ap (λ (t : List Message × (ℕ × (ℕ × (Bool × Summary)))). let x : PlaceCell = record { pending = t .0; next = t .1 .0; nextSafe = t .1 .1 .0; sent = t .1 .1 .1 .0; summary = t .1 .1 .1 .1 } in x)
+unfolding endpointForm renamed mapped
+endpoint-value o b =
+    ap (λ (t : List Message × (ℕ × (ℕ × (Bool × Summary)))). let x : EndpointCell = record { pending = t .0; next = t .1 .0; nextSafe = t .1 .1 .0; sent = t .1 .1 .1 .0; summary = t .1 .1 .1 .1 } in x)
     (pair-value (bounded messageForm maxPending) _ o b (pair-value (mark (maxQueue + 1)) _ (o + listSize maxPending) b (pair-value (mark (maxQueue + 1)) sentForm (o + listSize maxPending + 1) b refl)))
 
 -- the place for a summary

@@ -1,4 +1,3 @@
-pub mod Alls
 pub mod Marks
 pub mod RawHall
 pub mod CrossParts

@@ -7,7 +7,8 @@ use lib.ListN.{getD}
 use Rattle.base.specs.Lists.{has}
 use Rattle.quorum.specs.Sets.{members}
 use Rattle.model.specs.Hall.{maxEntries}
-use Rattle.store.specs.Layout.{networkAt, placeSize, rowSize, placeSentAt}
+use Rattle.store.specs.Layout.{networkAt, endpointSize, rowSize, endpointSentAt}
+use Rattle.validity.specs.RawHall.{sizeAt}
 
 -- is entry x labelled, by the list l of label sequence numbers, 0 for none?
 unfoldable pub marked : List ℕ → ℕ → Bool
@@ -21,21 +22,21 @@ messageMarked l sent x = elim (eqb x 0) [ true ↦ sent | false ↦ marked l x ]
 abbrev pub flagAt : List ℕ → ℕ → ℕ → Bool
 flagAt b o k = eqb 1 (getD b (o + (k - 1)) 0)
 
--- where recorder p's place in the view at place i stands, and whether its summary was sent
-abbrev pub placeOff : ℕ → ℕ → ℕ
-placeOff p i = networkAt + (p - 1) * rowSize + i * placeSize
+-- where recorder p's endpoint in the view at index i stands, and whether its summary was sent
+abbrev pub endpointOff : ℕ → ℕ → ℕ
+endpointOff p i = networkAt + (p - 1) * rowSize + i * endpointSize
 
 abbrev pub sentAt : List ℕ → ℕ → ℕ → Bool
-sentAt b p i = eqb 1 (getD b (placeOff p i + placeSentAt) 0)
+sentAt b p i = eqb 1 (getD b (endpointOff p i + endpointSentAt) 0)
 
 -- an entry of a set is labelled
 unfoldable pub setOk : List ℕ → List ℕ → ℕ → ℕ → Bool
 setOk l b o e = not (flagAt b o e) || marked l e
 
--- a safe source is a member, of n recorders, of the set m
-unfoldable pub sourceOk : List ℕ → ℕ → ℕ → ℕ → ℕ → Bool
-sourceOk b o n m q = not (flagAt b o q) || has (members n m) q
+-- a safe source is a member of the set m
+unfoldable pub sourceOk : List ℕ → ℕ → ℕ → ℕ → Bool
+sourceOk b o m q = not (flagAt b o q) || has (members (sizeAt b) m) q
 
--- and a heard one has sent its summary in the view at place i
-unfoldable pub heardOk : List ℕ → ℕ → ℕ → ℕ → ℕ → ℕ → Bool
-heardOk b o n m i q = not (flagAt b o q) || (has (members n m) q && sentAt b q i)
+-- and a heard one has sent its summary in the view at index i
+unfoldable pub heardOk : List ℕ → ℕ → ℕ → ℕ → ℕ → Bool
+heardOk b o m i q = not (flagAt b o q) || (has (members (sizeAt b) m) q && sentAt b q i)

@@ -24,7 +24,7 @@ viewCount b = getD b viewsAt 0
 abbrev pub entryCount : List ℕ → ℕ
 entryCount b = getD b entriesAt 0
 
--- the set of the view at place i, none past the last
+-- the set of the view at index i, none past the last
 unfoldable pub setAt : List ℕ → ℕ → ℕ
 setAt b i = elim (ltb i (viewCount b)) [ true ↦ getD b (viewCells + i * viewSize + viewSetAt) 0 | false ↦ 0 ]
 

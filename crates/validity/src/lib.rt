@@ -1,47 +1,36 @@
-// Is a byte slice the stored form of a hall? Each field in its range (crate ranges), and the cross rules.
+// Is a byte slice the stored form of a hall? Each field in its range (crate ranges), and the cross rules. The tests are
+// gathered by `&`: all are made, with no branch.
 ghost use mathlib.Core.Path.{_≡_};
 ghost use mathlib.Core.Bool.{_&&_, _||_};
 ghost use Prim.Native.Nat.{_+_, _-_, _*_, _≤_, _<_};
 ghost use lib.Dec.{eqb};
-ghost use lib.ListN.{length, getD};
-ghost use Rattle.codec.specs.Bytes.{part};
+ghost use lib.ListN.{length};
 ghost use Rattle.codec.specs.ByteList.{listAt};
 ghost use Rattle.base.specs.Lists.{has, all};
 ghost use Rattle.quorum.specs.Sets.{members};
 ghost use Rattle.base.specs.Numbers.{upTo};
 ghost use Rattle.model.specs.Hall.{maxEntries, maxViews, maxRecorders};
-ghost use Rattle.store.specs.Valid.{labelsApart, queueNames, recorderCross, placeCross, crossRules};
+ghost use Rattle.store.specs.Valid.{recorderCross, endpointCross, crossRules};
 ghost use Rattle.store.specs.StoredForm.{isStored};
-ghost use Rattle.store.specs.Layout.{queuedSize, viewsAt, viewCells, entriesAt, storedLength};
-ghost use Rattle.ranges.specs.TableParts.{viewNumbers};
-ghost use Rattle.validity.specs.Alls.{viewAt, Found};
+ghost use Rattle.store.specs.Layout.{queuedSize, viewCells, entriesAt, storedLength};
+ghost use Rattle.ranges.specs.TableParts.{viewNumbers, viewAt};
 ghost use Rattle.validity.specs.Marks.{marked, messageMarked, sentAt, setOk, sourceOk, heardOk};
 ghost use Rattle.validity.specs.RawHall.{Ranged, raw, sizeAt, viewCount, entryCount, setAt};
-ghost use Rattle.validity.specs.CrossParts.{Labels, queuedOk, summaryOk, apart, viewCross};
+ghost use Rattle.validity.specs.CrossParts.{Labels, Labelled, LabelledView};
+ghost use Rattle.validity.specs.CrossParts.{queuedOk, summaryOk, apart, queueCross, viewCross};
 use model::limits;
+use quorum::in_mask;
 use store::layout;
 
 // How many entries there may be, as a byte.
 const ENTRIES: u8 = limits::MAX_ENTRIES as u8;
 
-// Do both hold?
-fn both(a: bool, b: bool) -> bool
-    ensures { λ r. ⌜ r ≡ a && b ⌝ }
-{
-    if a { b } else { false }
-}
-
 // Is entry x labelled? `labels` has the sequence number of each entry's label, 0 for none.
 fn is_marked(labels: &[u8; limits::MAX_ENTRIES], x: u8) -> bool
+    requires { ⌜ 1 ≤ x ⌝ }
     ensures { λ r. ⌜ r ≡ marked (now (labels .entry)) x ⌝ }
 {
-    if x < 1 {
-        return false;
-    }
-    if ENTRIES < x {
-        return false;
-    }
-    labels[(x - 1) as usize] != 0
+    x <= ENTRIES && labels[(x - 1) as usize] != 0
 }
 
 // Is a message a labelled entry, or the summary of a source that sent it?
@@ -69,15 +58,11 @@ fn names_all(b: &[u8], at: usize, labels: &[u8; limits::MAX_ENTRIES], sent: bool
 }
 
 // If entry e is in the set of flags at an offset, is it labelled?
-fn in_set(b: &[u8], at: usize, labels: &[u8; limits::MAX_ENTRIES], e: usize) -> bool
+fn labelled_if_set(b: &[u8], at: usize, labels: &[u8; limits::MAX_ENTRIES], e: usize) -> bool
     requires { ⌜ (1 ≤ e) × (e ≤ maxEntries) × (at + maxEntries ≤ length (now b)) ⌝ }
     ensures { λ r. ⌜ r ≡ setOk (now (labels .entry)) (now (b .entry)) at e ⌝ }
 {
-    if 1 == b[at + (e - 1)] {
-        is_marked(labels, e as u8)
-    } else {
-        true
-    }
+    1 != b[at + (e - 1)] || is_marked(labels, e as u8)
 }
 
 // Are the entries of the set of flags at an offset labelled?
@@ -87,7 +72,7 @@ fn names_set(b: &[u8], at: usize, labels: &[u8; limits::MAX_ENTRIES]) -> bool
 {
     let mut j = 0;
     while j < limits::MAX_ENTRIES {
-        if !in_set(b, at, labels, j + 1) {
+        if !labelled_if_set(b, at, labels, j + 1) {
             return false;
         }
         j += 1;
@@ -100,41 +85,30 @@ fn is_member(n: u8, set: u8, k: usize) -> bool
     requires { ⌜ n ≤ maxRecorders ⌝ }
     ensures { λ r. ⌜ r ≡ has (members n set) k ⌝ }
 {
-    if k < 1 {
-        return false;
-    }
-    if (n as usize) < k {
-        return false;
-    }
-    let i = (k - 1) as u32;
-    let bits = set as u32;
-    (bits >> i) % 2 == 1
+    (1 <= k) & (k <= n as usize) && in_mask(set as u32, k as u32)
 }
 
-// Did recorder p send its summary in the view at place i?
+// Did recorder p send its summary in the view at index i?
 fn is_sent(b: &[u8], p: usize, i: usize) -> bool
     requires { ⌜ (1 ≤ p) × (p ≤ maxRecorders) × (i ≤ maxViews) × (storedLength ≤ length (now b)) ⌝ }
     ensures { λ r. ⌜ r ≡ sentAt (now (b .entry)) p i ⌝ }
 {
-    1 == b[layout::NETWORK + (p - 1) * layout::ROW + i * layout::PLACE + layout::PLACE_SENT]
+    1 == b[layout::NETWORK + (p - 1) * layout::ROW + i * layout::ENDPOINT + layout::ENDPOINT_SENT]
 }
 
 // If source q is heard, is it a member and was its summary sent?
 fn heard_one(b: &[u8], at: usize, set: u8, i: usize, q: usize) -> bool
-    requires { ⌜ (1 ≤ q) × (q ≤ maxRecorders) × (i ≤ maxViews) × (at + maxRecorders ≤ length (now b)) × (storedLength ≤ length (now b)) × (getD (now b) 0 0 ≤ maxRecorders) ⌝ }
-    ensures { λ r. ⌜ r ≡ heardOk (now (b .entry)) at (getD (now (b .entry)) 0 0) set i q ⌝ }
+    requires { ⌜ Ranged (now b) × ((1 ≤ q) × (q ≤ maxRecorders) × (i ≤ maxViews)) ⌝ }
+    requires { ⌜ at + maxRecorders ≤ length (now b) ⌝ }
+    ensures { λ r. ⌜ r ≡ heardOk (now (b .entry)) at set i q ⌝ }
 {
-    if 1 == b[at + (q - 1)] {
-        both(is_member(b[0], set, q), is_sent(b, q, i))
-    } else {
-        true
-    }
+    1 != b[at + (q - 1)] || is_member(b[0], set, q) & is_sent(b, q, i)
 }
 
 // "A source is marked heard only if its summary in the hearer's current view was sent."
 fn heard_all(b: &[u8], at: usize, set: u8, i: usize) -> bool
-    requires { ⌜ (i ≤ maxViews) × (at + maxRecorders ≤ length (now b)) × (storedLength ≤ length (now b)) × (getD (now b) 0 0 ≤ maxRecorders) ⌝ }
-    ensures { λ r. ⌜ r ≡ all (heardOk (now (b .entry)) at (getD (now (b .entry)) 0 0) set i) (upTo maxRecorders) ⌝ }
+    requires { ⌜ Ranged (now b) × ((i ≤ maxViews) × (at + maxRecorders ≤ length (now b))) ⌝ }
+    ensures { λ r. ⌜ r ≡ all (heardOk (now (b .entry)) at set i) (upTo maxRecorders) ⌝ }
 {
     let mut j = 0;
     while j < limits::MAX_RECORDERS {
@@ -148,20 +122,16 @@ fn heard_all(b: &[u8], at: usize, set: u8, i: usize) -> bool
 
 // If source q is safe, is it a member?
 fn source_one(b: &[u8], at: usize, set: u8, q: usize) -> bool
-    requires { ⌜ (1 ≤ q) × (q ≤ maxRecorders) × (at + maxRecorders ≤ length (now b)) × (getD (now b) 0 0 ≤ maxRecorders) ⌝ }
-    ensures { λ r. ⌜ r ≡ sourceOk (now (b .entry)) at (getD (now (b .entry)) 0 0) set q ⌝ }
+    requires { ⌜ Ranged (now b) × ((1 ≤ q) × (q ≤ maxRecorders) × (at + maxRecorders ≤ length (now b))) ⌝ }
+    ensures { λ r. ⌜ r ≡ sourceOk (now (b .entry)) at set q ⌝ }
 {
-    if 1 == b[at + (q - 1)] {
-        is_member(b[0], set, q)
-    } else {
-        true
-    }
+    1 != b[at + (q - 1)] || is_member(b[0], set, q)
 }
 
 // "Sources heard or safe are those of members of the view."
 fn source_all(b: &[u8], at: usize, set: u8) -> bool
-    requires { ⌜ (at + maxRecorders ≤ length (now b)) × (getD (now b) 0 0 ≤ maxRecorders) ⌝ }
-    ensures { λ r. ⌜ r ≡ all (sourceOk (now (b .entry)) at (getD (now (b .entry)) 0 0) set) (upTo maxRecorders) ⌝ }
+    requires { ⌜ Ranged (now b) × (at + maxRecorders ≤ length (now b)) ⌝ }
+    ensures { λ r. ⌜ r ≡ all (sourceOk (now (b .entry)) at set) (upTo maxRecorders) ⌝ }
 {
     let mut j = 0;
     while j < limits::MAX_RECORDERS {
@@ -173,24 +143,9 @@ fn source_all(b: &[u8], at: usize, set: u8) -> bool
     true
 }
 
-// The place of view g among the m formed views, m if it is not formed.
-fn find_view(b: &[u8], m: usize, g: u32) -> usize
-    requires { ⌜ (m ≤ maxViews) × (entriesAt ≤ length (now b)) ⌝ }
-    ensures { λ r. ⌜ Found m (now (b .entry)) g r ⌝ }
-{
-    let mut i = 0;
-    while i < m {
-        if codec::get_u32(b, layout::VIEWS + i * layout::VIEW) == g {
-            return i;
-        }
-        i += 1;
-    }
-    i
-}
-
-// The set of the view at a place, none past the last.
+// The set of the view at an index, none past the last.
 fn view_set(b: &[u8], i: usize) -> u8
-    requires { ⌜ (i ≤ maxViews) × (getD (now b) viewsAt 0 ≤ maxViews) × (entriesAt ≤ length (now b)) ⌝ }
+    requires { ⌜ (i ≤ maxViews) × (viewCount (now b) ≤ maxViews) × (entriesAt ≤ length (now b)) ⌝ }
     ensures { λ r. ⌜ r ≡ setAt (now (b .entry)) i ⌝ }
 {
     let m = b[layout::VIEW_COUNT] as usize;
@@ -229,14 +184,11 @@ fn label_apart(b: &[u8], d: usize, e: usize) -> bool
     if b[x + layout::ENTRY_SEQUENCE] == 0 {
         return true;
     }
-    let seq_sender = both(
-        b[x + layout::ENTRY_SEQUENCE] == b[y + layout::ENTRY_SEQUENCE],
-        b[x] == b[y],
-    );
-    !both(
-        codec::get_u32(b, x + layout::ENTRY_LABEL) == codec::get_u32(b, y + layout::ENTRY_LABEL),
-        seq_sender,
-    )
+    let same_view = codec::get_u32(b, x + layout::ENTRY_LABEL)
+        == codec::get_u32(b, y + layout::ENTRY_LABEL);
+    let same_number = b[x + layout::ENTRY_SEQUENCE] == b[y + layout::ENTRY_SEQUENCE];
+    let same_sender = b[x] == b[y];
+    !(same_view & same_number & same_sender)
 }
 
 // Does entry d share its label with no other of the m entries?
@@ -275,21 +227,18 @@ fn names_queued(b: &[u8], i: usize, at: usize, labels: &[u8; limits::MAX_ENTRIES
     ensures { λ r. ⌜ r ≡ queuedOk (now (labels .entry)) (now (b .entry)) i at ⌝ }
 {
     let source = b[at] as usize;
-    if is_member(b[0], view_set(b, i), source) {
-        names_message(
+    is_member(b[0], view_set(b, i), source)
+        && names_message(
             labels,
             is_sent(b, source, i),
             b[at + layout::QUEUED_MESSAGE],
         )
-    } else {
-        false
-    }
 }
 
-// Are the queued messages of the view at place i those of members, and do they name labelled entries and sent summaries?
+// Are the queued messages of the view at index i those of members, naming labelled entries and sent summaries?
 fn names_queue(b: &[u8], i: usize, labels: &[u8; limits::MAX_ENTRIES]) -> bool
-    requires { ⌜ Ranged (now b) × ((i < viewCount (now b)) × Labels (raw (now b) .entries) (now labels)) ⌝ }
-    ensures { λ r. ⌜ r ≡ queueNames (raw (now (b .entry))) (viewAt (now (b .entry)) i) (raw (now (b .entry)) .service .queue (viewAt (now (b .entry)) i)) ⌝ }
+    requires { ⌜ LabelledView (now b) (now labels) i ⌝ }
+    ensures { λ r. ⌜ r ≡ queueCross (raw (now (b .entry))) (viewAt (now (b .entry)) i) ⌝ }
 {
     let at = layout::QUEUES + i * layout::QUEUE;
     let count = b[at] as usize;
@@ -303,44 +252,41 @@ fn names_queue(b: &[u8], i: usize, labels: &[u8; limits::MAX_ENTRIES]) -> bool
     true
 }
 
-// Does the summary of the place at an offset, if it was sent, name labelled entries?
+// Does the summary of the endpoint at an offset, if it was sent, name labelled entries?
 fn names_summary(b: &[u8], at: usize, labels: &[u8; limits::MAX_ENTRIES]) -> bool
     requires { ⌜ at + 512 ≤ length (now b) ⌝ }
     ensures { λ r. ⌜ r ≡ summaryOk (now (labels .entry)) (now (b .entry)) at ⌝ }
 {
-    if 1 == b[at + layout::PLACE_SENT] {
-        let known = at + layout::PLACE_SUMMARY;
-        both(
-            names_set(b, known, labels),
-            names_all(b, known + layout::SUMMARY_ORDER, labels, false),
-        )
+    if 1 == b[at + layout::ENDPOINT_SENT] {
+        let known = at + layout::ENDPOINT_SUMMARY;
+        names_set(b, known, labels) & names_all(b, known + layout::SUMMARY_ORDER, labels, false)
     } else {
         true
     }
 }
 
-// "Pending and queued messages, summaries .. are those of members of the view": recorder p in the view at place i.
-fn place_cross(b: &[u8], i: usize, labels: &[u8; limits::MAX_ENTRIES], p: usize) -> bool
-    requires { ⌜ Ranged (now b) × ((i < viewCount (now b)) × Labels (raw (now b) .entries) (now labels) × (1 ≤ p) × (p ≤ sizeAt (now b))) ⌝ }
-    ensures { λ r. ⌜ r ≡ placeCross (raw (now (b .entry))) (viewAt (now (b .entry)) i) p ⌝ }
+// "Pending and queued messages, summaries .. are those of members of the view": recorder p in the view at index i.
+fn endpoint_cross(b: &[u8], i: usize, labels: &[u8; limits::MAX_ENTRIES], p: usize) -> bool
+    requires { ⌜ LabelledView (now b) (now labels) i × ((1 ≤ p) × (p ≤ sizeAt (now b))) ⌝ }
+    ensures { λ r. ⌜ r ≡ endpointCross (raw (now (b .entry))) (viewAt (now (b .entry)) i) p ⌝ }
 {
-    let at = layout::NETWORK + (p - 1) * layout::ROW + i * layout::PLACE;
+    let at = layout::NETWORK + (p - 1) * layout::ROW + i * layout::ENDPOINT;
     let sent = is_sent(b, p, i);
     if is_member(b[0], view_set(b, i), p) {
-        both(names_all(b, at, labels, sent), names_summary(b, at, labels))
+        names_all(b, at, labels, sent) & names_summary(b, at, labels)
     } else {
-        both(b[at] == 0, !sent)
+        (b[at] == 0) & !sent
     }
 }
 
 // The same for recorders 1 to n.
-fn places_cross(b: &[u8], i: usize, labels: &[u8; limits::MAX_ENTRIES], n: usize) -> bool
-    requires { ⌜ Ranged (now b) × ((i < viewCount (now b)) × Labels (raw (now b) .entries) (now labels) × (n ≡ sizeAt (now b))) ⌝ }
-    ensures { λ r. ⌜ r ≡ all (placeCross (raw (now (b .entry))) (viewAt (now (b .entry)) i)) (upTo n) ⌝ }
+fn endpoints_cross(b: &[u8], i: usize, labels: &[u8; limits::MAX_ENTRIES], n: usize) -> bool
+    requires { ⌜ LabelledView (now b) (now labels) i × (n ≡ sizeAt (now b)) ⌝ }
+    ensures { λ r. ⌜ r ≡ all (endpointCross (raw (now (b .entry))) (viewAt (now (b .entry)) i)) (upTo n) ⌝ }
 {
     let mut j = 0;
     while j < n {
-        if !place_cross(b, i, labels, j + 1) {
+        if !endpoint_cross(b, i, labels, j + 1) {
             return false;
         }
         j += 1;
@@ -348,18 +294,18 @@ fn places_cross(b: &[u8], i: usize, labels: &[u8; limits::MAX_ENTRIES], n: usize
     true
 }
 
-// The rules of the view at place i.
+// The rules of the view at index i.
 fn view_cross(b: &[u8], labels: &[u8; limits::MAX_ENTRIES], i: usize) -> bool
-    requires { ⌜ Ranged (now b) × ((i < viewCount (now b)) × Labels (raw (now b) .entries) (now labels)) ⌝ }
+    requires { ⌜ LabelledView (now b) (now labels) i ⌝ }
     ensures { λ r. ⌜ r ≡ viewCross (raw (now (b .entry))) (viewAt (now (b .entry)) i) ⌝ }
 {
     let n = b[0] as usize;
-    both(names_queue(b, i, labels), places_cross(b, i, labels, n))
+    names_queue(b, i, labels) & endpoints_cross(b, i, labels, n)
 }
 
 // The rules of the m views.
 fn views_cross(b: &[u8], labels: &[u8; limits::MAX_ENTRIES], m: usize) -> bool
-    requires { ⌜ Ranged (now b) × ((m ≡ viewCount (now b)) × Labels (raw (now b) .entries) (now labels)) ⌝ }
+    requires { ⌜ Labelled (now b) (now labels) × (m ≡ viewCount (now b)) ⌝ }
     ensures { λ r. ⌜ r ≡ all (viewCross (raw (now (b .entry)))) (viewNumbers m viewCells (now (b .entry))) ⌝ }
 {
     let mut i = 0;
@@ -377,39 +323,30 @@ fn in_view(n: u8, set: u8, g: u32, r: usize) -> bool
     requires { ⌜ n ≤ maxRecorders ⌝ }
     ensures { λ t. ⌜ t ≡ (eqb g 0 || has (members n set) r) ⌝ }
 {
-    if g == 0 { true } else { is_member(n, set, r) }
+    g == 0 || is_member(n, set, r)
 }
 
 // "Every list or set names only labelled entries", and heard and safe sources: recorder r.
 fn recorder_cross(b: &[u8], labels: &[u8; limits::MAX_ENTRIES], r: usize) -> bool
-    requires { ⌜ Ranged (now b) × (Labels (raw (now b) .entries) (now labels) × (1 ≤ r) × (r ≤ sizeAt (now b))) ⌝ }
+    requires { ⌜ Labelled (now b) (now labels) × ((1 ≤ r) × (r ≤ sizeAt (now b))) ⌝ }
     ensures { λ t. ⌜ t ≡ recorderCross (raw (now (b .entry))) r ⌝ }
 {
     let at = layout::RECORDERS + (r - 1) * layout::RECORDER;
     let g = codec::get_u32(b, at);
-    let i = find_view(b, b[layout::VIEW_COUNT] as usize, g);
+    let i = ranges::find_view(b, b[layout::VIEW_COUNT] as usize, g);
     let set = view_set(b, i);
-    let current = in_view(b[0], set, g, r);
-    let known = names_set(b, at + layout::RECORDER_KNOWN, labels);
-    let sources = both(
-        heard_all(b, at + layout::RECORDER_HEARD, set, i),
-        source_all(b, at + layout::RECORDER_SAFE_SOURCES, set),
-    );
-    let sets = both(names_set(b, at + layout::RECORDER_SAFE, labels), sources);
-    let order = both(
-        names_all(b, at + layout::RECORDER_ORDER, labels, false),
-        sets,
-    );
-    let lists = both(
-        names_all(b, at + layout::RECORDER_BUFFER, labels, false),
-        order,
-    );
-    both(current, both(known, lists))
+    in_view(b[0], set, g, r)
+        & names_set(b, at + layout::RECORDER_KNOWN, labels)
+        & names_all(b, at + layout::RECORDER_BUFFER, labels, false)
+        & names_all(b, at + layout::RECORDER_ORDER, labels, false)
+        & names_set(b, at + layout::RECORDER_SAFE, labels)
+        & heard_all(b, at + layout::RECORDER_HEARD, set, i)
+        & source_all(b, at + layout::RECORDER_SAFE_SOURCES, set)
 }
 
 // The same for recorders 1 to n.
 fn recorders_cross(b: &[u8], labels: &[u8; limits::MAX_ENTRIES], n: usize) -> bool
-    requires { ⌜ Ranged (now b) × (Labels (raw (now b) .entries) (now labels) × (n ≡ sizeAt (now b))) ⌝ }
+    requires { ⌜ Labelled (now b) (now labels) × (n ≡ sizeAt (now b)) ⌝ }
     ensures { λ t. ⌜ t ≡ all (recorderCross (raw (now (b .entry)))) (upTo n) ⌝ }
 {
     let mut j = 0;
@@ -431,10 +368,7 @@ fn cross_rules(b: &[u8]) -> bool
     let n = b[0] as usize;
     let m = b[layout::VIEW_COUNT] as usize;
     let count = b[layout::ENTRY_COUNT] as usize;
-    both(
-        labels_alone(b, count),
-        both(recorders_cross(b, &labels, n), views_cross(b, &labels, m)),
-    )
+    labels_alone(b, count) & recorders_cross(b, &labels, n) & views_cross(b, &labels, m)
 }
 
 // Are the first bytes of a slice a hall's stored form? (31.) Only these are read, and a shorter slice is none.
@@ -444,9 +378,5 @@ pub fn is_hall(b: &[u8]) -> bool
     if b.len() < layout::LENGTH {
         return false;
     }
-    if ranges::in_range(b) {
-        cross_rules(b)
-    } else {
-        false
-    }
+    ranges::in_range(b) && cross_rules(b)
 }

@@ -2,8 +2,8 @@
 -- Assumes nothing.
 use Prim.Native.Nat.{ℕ, _*_, _/_, _^_, _≤_, _<_}
 use native.Mathlib.Omega.{arith}
-use mathlib.Core.Path.{_≡_, sym, ap, ap₂, _∙_}
-use mathlib.Core.Bool.{Bool, not, _&&_, _||_}
+use mathlib.Core.Path.{_≡_, refl, sym, ap, ap₂, _∙_}
+use mathlib.Core.Bool.{Bool, true, false, not, _&&_, _||_}
 use mathlib.Core.Logic.{⊎-elim}
 use native.Mathlib.Nat.{div-eq-of-lt, div-lt-iff-lt-mul}
 use lib.Pow.{pow-pos}
@@ -11,7 +11,10 @@ use lib.Dec.{eqb, leb, ltb}
 use borrow.Author.Tests.{eq-eqb, ne-eqb, le-leb, lt-leb, lt-ltb, le-ltb, leb-true, leb-false}
 use Rattle.base.specs.Numbers.{within}
 use Rattle.base.specs.Chains.{refuse, _⨾_}
-use Rattle.base.proofs.Bools.{true-or-false}
+use Rattle.base.proofs.Bools.{by-cases, true-or-false, not-both}
+use Rattle.base.proofs.NumbersLaws.{within-both}
+use Rattle.model.specs.Hall.{maxRecorders}
+use Rattle.model.specs.Opening.{wrongOpening, openingOf}
 use Rattle.model.specs.Kinds as model
 use Rattle.model.specs.Kinds.{Kind, uses, wrongRecorder, strayWord, wrongNumber, wrongSet, inputRefusal}
 use Rattle.words.specs.declared.Uses.{Uses}
@@ -31,14 +34,29 @@ above low high x l =
     ∙ sym (ap (λ t. not (t && leb x high)) (le-leb low x l))
 
 -- a mask names a recorder above n where it has a bit there
-pub names-above : (n b : ℕ) → not (eqb (b / 2 ^ n) 0) ≡ leb (2 ^ n) b
-names-above n b =
+pub bits-above : (n b : ℕ) → not (eqb (b / 2 ^ n) 0) ≡ leb (2 ^ n) b
+bits-above n b =
     ⊎-elim (λ t. ap not (ne-eqb (b / 2 ^ n) 0 (λ e. some (leb-true (2 ^ n) b t) e)) ∙ sym t)
     (λ f. ap not (eq-eqb (b / 2 ^ n) 0 (div-eq-of-lt (leb-false (2 ^ n) b f))) ∙ sym f)
     (true-or-false (leb (2 ^ n) b))
   where
     some : 2 ^ n ≤ b → b / 2 ^ n ≡ 0 → ⊥
     some l e = let lt : b < 1 * 2 ^ n = div-lt-iff-lt-mul (pow-pos n) .0 (omega arith) in omega arith
+
+-- a number that is not outside a range is in it
+pub inside : (low high x : ℕ) → not (within low high x) ≡ false → (low ≤ x) × (x ≤ high)
+inside low high x e = within-both low high x (by-cases (within low high x) (λ t. t) (λ f. absurd (not-both (ap not f) e)))
+
+-- ## 16 by its two tests
+
+-- where N is outside 1 to 8, or the founders are above N
+pub by-size : (n f : ℕ) {t : Bool} → not (within 1 maxRecorders n) ≡ t → wrongOpening (openingOf n f) ≡ (t || leb (2 ^ n) f)
+unfolding wrongOpening
+by-size n f e = either (within 1 maxRecorders n) ∙ ap (λ t. t || leb (2 ^ n) f) e
+  where
+    either : (s : Bool) → elim s [ true ↦ leb (2 ^ n) f | false ↦ true ] ≡ (not s || leb (2 ^ n) f)
+    either true = refl
+    either false = refl
 
 -- ## The four tests in their order
 

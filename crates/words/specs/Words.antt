@@ -1,7 +1,7 @@
 -- The kind that a number names, and what the code's table says of a kind. Assumes nothing.
 use Prim.Native.Nat.{ℕ}
 use Rattle.model.specs.Kinds as model
-use Rattle.model.specs.Kinds.{Kind, submit, KindWord, kind, noKind, kindOf}
+use Rattle.model.specs.Kinds.{Kind, submit, kind, noKind, kindOf}
 use Rattle.words.specs.declared.Use.{Use}
 use Rattle.words.specs.declared.Use.the-variants.{Unused, Word, Recorder, Number, Set}
 use Rattle.words.specs.declared.Uses.{Uses}

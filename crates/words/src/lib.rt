@@ -1,14 +1,22 @@
-// The table of kinds, and the refusals 12 to 15, "because of the input", by that table. These functions are for the crates
-// of this repository: a `requires` is met by each caller's proof.
+// Refusals "because of the input", 12 to 16: those of a kind by the table of kinds, that of an opening, and how two
+// refusals come in turn. For the crates of this repository: a `requires` is met by each caller's proof.
 ghost use mathlib.Core.Path.{_≡_};
-ghost use Prim.Native.Nat.{_≤_};
+ghost use mathlib.Core.Bool.{not};
+ghost use Prim.Native.Nat.{_^_, _≤_};
+ghost use lib.Dec.{leb};
+ghost use Rattle.base.specs.Numbers.{within};
 ghost use Rattle.base.specs.Chains.{refuse, _⨾_};
 ghost use Rattle.model.specs.Hall.{maxRecorders};
 ghost use Rattle.model.specs.Kinds.{lastKind, uses, wrongRecorder, strayWord, wrongNumber, wrongSet, inputRefusal};
+ghost use Rattle.model.specs.Opening.{wrongOpening, openingOf};
 ghost use Rattle.words.specs.Words.{kindAt, useOf, usesOf};
 use model::kinds;
 use model::limits::MAX_NUMBER;
+use model::limits::MAX_RECORDERS;
 use model::refusals;
+
+// "N, 1 to 8"
+const RECORDERS: u32 = MAX_RECORDERS as u32;
 
 // What a kind uses a word for: nothing (it is 0), any word, a recorder 1 to N, a view number, the set of a new view.
 pub enum Use {
@@ -35,7 +43,7 @@ fn uses_of(k: u32) -> Uses
         kinds::SEND_SUMMARY => Uses(Use::Recorder, Use::Unused, Use::Unused),
         kinds::FORM => Uses(Use::Unused, Use::Number, Use::Set),
         kinds::ENTER => Uses(Use::Recorder, Use::Number, Use::Unused),
-        kinds::ORDER => Uses(Use::Recorder, Use::Number, Use::Unused),
+        kinds::PLACE => Uses(Use::Recorder, Use::Number, Use::Unused),
         kinds::RECEIVE => Uses(Use::Recorder, Use::Unused, Use::Unused),
         kinds::NOTICE => Uses(Use::Recorder, Use::Unused, Use::Unused),
         kinds::CONFIRM => Uses(Use::Recorder, Use::Unused, Use::Unused),
@@ -44,13 +52,28 @@ fn uses_of(k: u32) -> Uses
     }
 }
 
+// Is a word below low or above high?
+pub fn is_outside(low: u32, high: u32, w: u32) -> bool
+    ensures { λ x. ⌜ x ≡ not (within low high w) ⌝ }
+{
+    w < low || high < w
+}
+
+// Does a mask name a recorder above n?
+fn names_above(n: u32, mask: u32) -> bool
+    requires { ⌜ n ≤ maxRecorders ⌝ }
+    ensures { λ x. ⌜ x ≡ leb (2 ^ n) mask ⌝ }
+{
+    (mask >> n) != 0
+}
+
 // 12: "R is not 1 to N where used, or not 0 where unused"
 fn wrong_recorder(n: u32, u: Use, w: u32) -> bool
     ensures { λ x. ⌜ x ≡ wrongRecorder n (useOf u) w ⌝ }
 {
     match u {
         Use::Unused => w != 0,
-        Use::Recorder => w < 1 || n < w,
+        Use::Recorder => is_outside(1, n, w),
         _ => false,
     }
 }
@@ -70,7 +93,7 @@ fn wrong_number(u: Use, w: u32) -> bool
     ensures { λ x. ⌜ x ≡ wrongNumber (useOf u) w ⌝ }
 {
     match u {
-        Use::Number => w < 1 || MAX_NUMBER < w,
+        Use::Number => is_outside(1, MAX_NUMBER, w),
         _ => false,
     }
 }
@@ -81,20 +104,27 @@ fn wrong_set(n: u32, u: Use, w: u32) -> bool
     ensures { λ x. ⌜ x ≡ wrongSet n (useOf u) w ⌝ }
 {
     match u {
-        Use::Set => w == 0 || (w >> n) != 0,
+        Use::Set => w == 0 || names_above(n, w),
         _ => false,
     }
 }
 
+// 16: "opening with N not 1 to 8, or founders above N"
+pub fn wrong_opening(n: u32, founders: u32) -> bool
+    ensures { λ x. ⌜ x ≡ wrongOpening (openingOf n founders) ⌝ }
+{
+    is_outside(1, RECORDERS, n) || names_above(n, founders)
+}
+
 // The number of a refusal whose condition holds, 0 for none.
-fn refusal(t: bool, number: u32) -> u32
+pub fn refusal(t: bool, number: u32) -> u32
     ensures { λ x. ⌜ x ≡ refuse t number ⌝ }
 {
     if t { number } else { 0 }
 }
 
 // The first of two refusals, 0 for none.
-fn first(a: u32, b: u32) -> u32
+pub fn first(a: u32, b: u32) -> u32
     ensures { λ x. ⌜ x ≡ a ⨾ b ⌝ }
 {
     if a == 0 { b } else { a }

@@ -24,7 +24,7 @@ returns : tie.Need-returns
 unfolding stepLent
 returns c =
     let a = c .before .before .before .before .before .args in
-    let w = wordsOf (a .k) (a .r) (a .a) (a .d) in
+    let w = wordsOf (a .k) (a .r) (a .a) (a .b) in
     lent-tried (plain (stepOn (now (a .hall)) w .answer)) (now (a .hall)) (stepOn (now (a .hall)) w .bytes) (now (a .out)) _ (c .try-step .ensures) (c .before .before .if1 .taken)
 
 step-requires : tie.Need-step-requires
@@ -40,9 +40,9 @@ returns-2 : tie.Need-returns-2
 unfolding stepLent
 returns-2 c =
     let a = c .before .before .before .before .before .before .before .before .before .before .args in
-    let w = wordsOf (a .k) (a .r) (a .a) (a .d) in
+    let w = wordsOf (a .k) (a .r) (a .a) (a .b) in
     let l = lent-refused (plain (stepOn (now (a .hall)) w .answer)) (now (a .hall)) (stepOn (now (a .hall)) w .bytes) (now (a .out)) _ (c .before .before .plain .ensures .number ∙ ap (λ (x : Answer). plain x .number) (c .before .before .before .before .before .step .ensures .answer)) (c .if2 .taken) in
-    record { number = l .number; hall = c .before .before .before .before .before .step .ensures .bytes ∙ step-keeps (now (a .hall)) w (λ z. c .if2 .taken ((c .before .before .plain .ensures .number ∙ ap (λ (x : Answer). plain x .number) (c .before .before .before .before .before .step .ensures .answer)) ∙ z)) ∙ l .hall; answer = l .answer }
+    record { number = l .number; bytes = c .before .before .before .before .before .step .ensures .bytes ∙ step-keeps (now (a .hall)) w (λ z. c .if2 .taken ((c .before .before .plain .ensures .number ∙ ap (λ (x : Answer). plain x .number) (c .before .before .before .before .before .step .ensures .answer)) ∙ z)) ∙ l .bytes; answer = l .answer }
 
 slice-aggregate-put-values : tie.Need-slice-aggregate-put-values
 slice-aggregate-put-values c = search needs
@@ -60,10 +60,10 @@ returns-3 : tie.Need-returns-3
 unfolding stepLent
 returns-3 c =
     let a = c .before .before .before .before .before .before .before .before .before .before .before .before .before .before .before .before .args in
-    let w = wordsOf (a .k) (a .r) (a .a) (a .d) in
+    let w = wordsOf (a .k) (a .r) (a .a) (a .b) in
     let e = c .before .before .put-values .ensures ∙ ap (withAnswer (now (a .out))) (c .before .before .before .before .before .before .before .before .plain .ensures .values ∙ ap (λ (x : Answer). plain x .values) (c .before .before .before .before .before .before .before .before .before .before .before .step .ensures .answer)) in
     let l = lent-done (plain (stepOn (now (a .hall)) w .answer)) (now (a .hall)) (stepOn (now (a .hall)) w .bytes) (now (a .out)) (sym (c .before .before .before .before .before .before .before .before .plain .ensures .number ∙ ap (λ (x : Answer). plain x .number) (c .before .before .before .before .before .before .before .before .before .before .before .step .ensures .answer)) ∙ c .before .before .before .before .before .before .if2 .left) (omega (arith, c .before .before .before .before .before .before .before .before .before .before .before .before .before .if1 .left)) in
-    record { number = l .number; hall = c .before .before .before .before .before .before .before .before .before .before .before .step .ensures .bytes ∙ l .hall; answer = e ∙ l .answer }
+    record { number = l .number; bytes = c .before .before .before .before .before .before .before .before .before .before .before .step .ensures .bytes ∙ l .bytes; answer = e ∙ l .answer }
 
 pub step-into-spec : {M : Type 1} → statement M
 step-into-spec =

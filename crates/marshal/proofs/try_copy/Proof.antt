@@ -28,7 +28,7 @@ plain-requires c κs = search needs
 returns : tie.Need-returns
 returns c =
     let a = c .before .before .before .before .before .before .before .before .args in
-    let w = wordsOf (a .k) (a .r) (a .a) (a .d) in
+    let w = wordsOf (a .k) (a .r) (a .a) (a .b) in
     c .plain .ensures .number
     ∙ ap (λ (x : Answer). plain x .number)
     (c .before .before .step .ensures .answer

@@ -23,7 +23,7 @@ returns c =
     let a = c .before .before .before .before .args in
     λ b l. c .plain .ensures .number
     ∙ ap (λ (x : Answer). plain x .number)
-    (c .before .before .step .ensures .answer ∙ answer-broken _ b (wordsOf (a .k) (a .r) (a .a) (a .d)) (short-broken _ (lit< tt)) (short-broken b l))
+    (c .before .before .step .ensures .answer ∙ answer-broken _ b (wordsOf (a .k) (a .r) (a .a) (a .b)) (short-broken _ (lit< tt)) (short-broken b l))
 
 pub try-short-spec : {M : Type 1} → statement M
 try-short-spec = tie.close (tie.spec slice-aggregate-step step-requires plain-requires returns)

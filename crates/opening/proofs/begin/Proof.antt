@@ -7,15 +7,10 @@ use lib.Pow.{pow-mono}
 use lib.Seq.{sets}
 use borrow.Author.Needs.{needs}
 use Rattle.codec.specs.Number.{digits}
-use Rattle.codec.proofs.clear.Reads as clear-reads
-use Rattle.codec.proofs.put_byte.Reads as put-byte-reads
-use Rattle.codec.proofs.put_u32.Reads as put-u32-reads
 use Rattle.store.specs.Layout.{storedLength, numberSize, viewsAt, viewCells, viewSets}
 use Rattle.opening.proofs.OpenedLaws.{begin-bytes}
 use Rattle.opening.proofs.begin.Statement.{statement}
 use Rattle.opening.proofs.begin.Tie as tie
-use Rattle.opening.proofs.begin.Reads as reads
-use Rattle.opening.proofs.begin.Lts as lts
 
 clear-requires : tie.Need-clear-requires
 clear-requires c κs = search needs

@@ -5,16 +5,16 @@ use Rattle.opening.specs.Opened.{founderMask}
 use Rattle.opening.proofs.founder_mask.Statement.{statement}
 use Rattle.opening.proofs.founder_mask.Tie as tie
 
-all-requires : tie.Need-all-requires
-all-requires c κs = search needs
+all-of-requires : tie.Need-all-of-requires
+all-of-requires c κs = search needs
 
 returns : tie.Need-returns
 unfolding founderMask
-returns c = rw (eq-eqb _ 0 (c .before .if1 .taken), founderMask) (c .all .ensures)
+returns c = rw (eq-eqb _ 0 (c .before .if1 .taken), founderMask) (c .all-of .ensures)
 
 returns-2 : tie.Need-returns-2
 unfolding founderMask
 returns-2 c = rw (ne-eqb _ 0 (c .if1 .left), founderMask)
 
 pub founder-mask-spec : {M : Type 1} → statement M
-founder-mask-spec = tie.close (tie.spec all-requires returns returns-2)
+founder-mask-spec = tie.close (tie.spec all-of-requires returns returns-2)

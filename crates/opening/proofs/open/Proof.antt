@@ -1,44 +1,45 @@
 -- `opening::open` meets its contract. Assumes nothing.
-use mathlib.Core.Path.{refl}
+use denote.Ref.{now}
+use Prim.Native.Nat.{ℕ}
+use mathlib.Core.Path.{_≡_, refl}
 use borrow.Author.Needs.{needs}
+use Rattle.model.specs.Opening.{openingOf}
+use Rattle.opening.specs.Opened.{founderMask, Taken}
 use Rattle.opening.proofs.Openings.{leaves-refused, allowed, leaves-opened}
 use Rattle.opening.proofs.open.Statement.{statement}
 use Rattle.opening.proofs.open.Tie as tie
-use Rattle.opening.proofs.open.Reads as reads
-use Rattle.opening.proofs.open.Lts as lts
-use Rattle.opening.proofs.begin.Reads as begin-reads
-use Rattle.opening.proofs.first.Reads as first-reads
-use Rattle.opening.proofs.founder_mask.Reads as founder-mask-reads
-use Rattle.opening.proofs.start_all.Reads as start-all-reads
-use Rattle.opening.proofs.too_short.Reads as too-short-reads
-use Rattle.opening.proofs.wrong_opening.Reads as wrong-opening-reads
 
 wrong-opening-requires : tie.Need-wrong-opening-requires
 wrong-opening-requires c κs = search needs
 
-too-short-requires : tie.Need-too-short-requires
-too-short-requires c κs = search needs
+refusal-requires : tie.Need-refusal-requires
+refusal-requires c κs = search needs
+
+refusal-requires-2 : tie.Need-refusal-requires-2
+refusal-requires-2 c κs = search needs
 
 first-requires : tie.Need-first-requires
 first-requires c κs = search needs
 
 returns : tie.Need-returns
 returns c =
-    leaves-refused _ _ _ _ _ _ (c .before .before .before .wrong-opening .ensures) (c .before .before .too-short .ensures) (c .before .first .ensures) (c .if1 .taken)
+    leaves-refused _ _ _ _ _ _ _ (c .before .before .before .before .wrong-opening .ensures) (c .before .before .before .refusal .ensures) (c .before .before .refusal2 .ensures) (c .before .first .ensures) (c .if1 .taken)
+
+-- neither 16 nor 18
+passed : (c : tie.Else1) (m : ℕ) → m ≡ founderMask (openingOf (c .before .before .before .before .before .before .args .n) (c .before .before .before .before .before .before .args .founders))
+    → Taken (c .before .before .before .before .before .before .args .n) m (now (c .before .before .before .before .before .before .args .b))
+passed c m e =
+    allowed _ _ _ _ _ _ _ (c .before .before .before .before .wrong-opening .ensures) (c .before .before .before .refusal .ensures) (c .before .before .refusal2 .ensures) (c .before .first .ensures) (c .if1 .left) m e
 
 founder-mask-requires : tie.Need-founder-mask-requires
-founder-mask-requires c κs =
-    allowed (c .before .before .before .before .before .args .b .now) _ _ _ _ _ (c .before .before .before .wrong-opening .ensures) (c .before .before .too-short .ensures) (c .before .first .ensures) (c .if1 .left) _ refl .size .1
+founder-mask-requires c κs = passed c _ refl .size .1
 
 begin-requires : tie.Need-begin-requires
-begin-requires c κs =
-    allowed _ _ _ _ _ _ (c .before .before .before .before .before .wrong-opening .ensures) (c .before .before .before .before .too-short .ensures) (c .before .before .before .first .ensures) (c .before .before .if1 .left) _ (c .before .founder-mask .ensures)
+begin-requires c κs = passed (c .before .before) _ (c .before .founder-mask .ensures)
 
 start-all-requires : tie.Need-start-all-requires
 start-all-requires c κs =
-    let t =
-    allowed (c .before .before .before .before .before .before .before .before .before .before .before .args .b .now) _ _ _ _ _ (c .before .before .before .before .before .before .before .before .before .wrong-opening .ensures) (c .before .before .before .before .before .before .before .before .too-short .ensures) (c .before .before .before .before .before .before .before .first .ensures) (c .before .before .before .before .before .before .if1 .left) _
-    (c .before .before .before .before .before .founder-mask .ensures) in
+    let t = passed (c .before .before .before .before .before .before) _ (c .before .before .before .before .before .founder-mask .ensures) in
     record { size = t .size; founders = t .founders; long = rw (c .before .before .before .begin .kept .0) (t .long) }
 
 same-length : tie.Need-same-length
@@ -46,7 +47,8 @@ same-length c = search needs
 
 returns-2 : tie.Need-returns-2
 returns-2 c =
-    leaves-opened _ _ _ _ _ _ (c .before .before .before .before .before .before .before .before .before .before .before .before .wrong-opening .ensures) (c .before .before .before .before .before .before .before .before .before .before .before .too-short .ensures) (c .before .before .before .before .before .before .before .before .before .before .first .ensures) (c .before .before .before .before .before .before .before .before .before .if1 .left) _
+    let d = c .before .before .before .before .before .before .before .before .before in
+    leaves-opened _ _ _ _ _ _ _ (d .before .before .before .before .wrong-opening .ensures) (d .before .before .before .refusal .ensures) (d .before .before .refusal2 .ensures) (d .before .first .ensures) (d .if1 .left) _
     (c .before .before .before .before .before .before .before .before .founder-mask .ensures) _ (c .before .before .start-all .ensures _ (c .before .before .before .before .before .before .begin .ensures))
 
 pub open-spec : {M : Type 1} → statement M
@@ -54,7 +56,8 @@ open-spec =
     tie.close
     (tie.spec
     wrong-opening-requires
-    too-short-requires
+    refusal-requires
+    refusal-requires-2
     first-requires
     returns
     founder-mask-requires

@@ -14,9 +14,6 @@ use Rattle.opening.specs.Opened.{begun, startOf}
 use Rattle.opening.proofs.OpenedLaws.{start-bytes}
 use Rattle.opening.proofs.start_all.Statement.{statement}
 use Rattle.opening.proofs.start_all.Tie as tie
-use Rattle.opening.proofs.start_all.Reads as reads
-use Rattle.opening.proofs.start_all.Lts as lts
-use Rattle.opening.proofs.start.Reads as start-reads
 
 abbrev Inv-loop : tie.InvT-loop
 Inv-loop b₀ n set k₀ b k =

@@ -1,5 +1,6 @@
 -- The fields, and the label. Assumes nothing.
 use denote.Ref.{now}
+use mathlib.Core.Bool.{and-assoc}
 use native.Mathlib.Omega.{arith}
 use mathlib.Core.Path.{refl}
 use Rattle.ranges.proofs.CellPartsLaws.{entry-part}
@@ -25,12 +26,6 @@ valid-view-number-requires c κs = search needs
 valid-byte-requires-2 : tie.Need-valid-byte-requires-2
 valid-byte-requires-2 c κs = search needs
 
-both-requires : tie.Need-both-requires
-both-requires c κs = search needs
-
-both-requires-2 : tie.Need-both-requires-2
-both-requires-2 c κs = search needs
-
 get-u32-requires : tie.Need-get-u32-requires
 get-u32-requires c κs = search needs
 
@@ -40,12 +35,10 @@ shared-slice-read-whole-label c = search needs
 whole-label-requires : tie.Need-whole-label-requires
 whole-label-requires c κs = search needs
 
-both-requires-3 : tie.Need-both-requires-3
-both-requires-3 c κs = search needs
-
 returns : tie.Need-returns
 returns c =
-    cc (entry-part (c .before .before .before .before .before .before .before .before .before .before .args .n) (c .before .before .before .before .before .before .before .before .before .before .args .at) (now (c .before .before .before .before .before .before .before .before .before .before .args .b)) (c .before .before .before .before .before .before .before .before .before .before .pre) (record { len = refl; byte = λ i. omega (arith, c .before .before .before .before .before .before .before .before .before .shared-slice-known .given i) }))
+    let a = c .before .before .before .before .before .before .before .args in
+    simp and-assoc (cc (simp and-assoc at (entry-part (a .n) (a .at) (now (a .b)) (c .before .before .before .before .before .before .before .pre) (record { len = refl; byte = λ i. omega (arith, c .before .before .before .before .before .before .shared-slice-known .given i) }))))
 
 pub valid-entry-spec : {M : Type 1} → statement M
 valid-entry-spec =
@@ -57,10 +50,7 @@ valid-entry-spec =
     valid-byte-requires
     valid-view-number-requires
     valid-byte-requires-2
-    both-requires
-    both-requires-2
     get-u32-requires
     shared-slice-read-whole-label
     whole-label-requires
-    both-requires-3
     returns)

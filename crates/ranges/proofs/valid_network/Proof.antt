@@ -7,14 +7,14 @@ use mathlib.Core.Path.{sym, _∙_}
 use borrow.Author.Tests.{not-true, not-false}
 use Rattle.model.specs.Hall.{maxViews, maxRecorders}
 use Rattle.codec.specs.Cells.{cells}
-use Rattle.store.specs.CellForms.{placeForm}
+use Rattle.store.specs.CellForms.{endpointForm}
 use Rattle.store.specs.Layout.{networkAt, queuesAt}
 use Rattle.ranges.proofs.Loops.{Left, left-start, left-next, cells-fail, cells-done}
 use Rattle.ranges.proofs.valid_network.Statement.{statement}
 use Rattle.ranges.proofs.valid_network.Tie as tie
 
 abbrev Inv-loop : tie.InvT-loop
-Inv-loop b n m i₀ i = (i ≤ n) × Left (cells placeForm m maxViews) networkAt n b i
+Inv-loop b n m i₀ i = (i ≤ n) × Left (cells endpointForm m maxViews) networkAt n b i
 
 abbrev μ-loop : tie.MeasureT-loop
 μ-loop b n m i₀ i = n - i
@@ -22,7 +22,7 @@ abbrev μ-loop : tie.MeasureT-loop
 loop-holds : tie.Need-loop-holds Inv-loop μ-loop
 loop-holds c =
     let a = c .before .args in
-    (search needs, left-start (cells placeForm (a .m) maxViews) networkAt (a .n) (now (a .b)))
+    (search needs, left-start (cells endpointForm (a .m) maxViews) networkAt (a .n) (now (a .b)))
 
 mul-valid-row : tie.Need-mul-valid-row Inv-loop μ-loop
 mul-valid-row c = search needs
@@ -37,7 +37,7 @@ returns : tie.Need-returns Inv-loop μ-loop
 returns c =
     let a = c .before .before .before .before .before .args in
     sym
-    (cells-fail (cells placeForm (a .m) maxViews) networkAt (a .n) (now (a .b)) maxRecorders queuesAt (search needs) (omega arith) (c .before .before .before .loop .i) (c .before .before .loop-test .taken)
+    (cells-fail (cells endpointForm (a .m) maxViews) networkAt (a .n) (now (a .b)) maxRecorders queuesAt (search needs) (omega arith) (c .before .before .before .loop .i) (c .before .before .loop-test .taken)
     (sym (c .before .valid-row .ensures) ∙ not-true (c .before .valid-row .result) (c .if1 .taken)) (c .before .before .before .loop .inv .1))
 
 add-i : tie.Need-add-i Inv-loop μ-loop
@@ -50,7 +50,7 @@ loop-again : tie.Need-loop-again Inv-loop μ-loop
 loop-again c =
     let a = c .before .before .before .before .before .args in (
       search needs,
-      left-next (cells placeForm (a .m) maxViews) networkAt (a .n) (now (a .b)) (c .before .before .before .loop .i) (c .before .before .loop-test .taken)
+      left-next (cells endpointForm (a .m) maxViews) networkAt (a .n) (now (a .b)) (c .before .before .before .loop .i) (c .before .before .loop-test .taken)
           (sym (c .before .valid-row .ensures) ∙ not-false (c .before .valid-row .result) (c .if1 .left)) (c .before .before .before .loop .inv .1),
     )
 
@@ -67,7 +67,7 @@ returns-2 : tie.Need-returns-2 Inv-loop μ-loop
 returns-2 c =
     let a = c .before .before .before .before .args in
     c .is-zero .ensures
-    ∙ sym (cells-done (cells placeForm (a .m) maxViews) networkAt (a .n) (now (a .b)) maxRecorders queuesAt (search needs) (omega arith) (c .before .before .loop .i) (c .before .loop-test .left) (c .before .before .loop .inv .1))
+    ∙ sym (cells-done (cells endpointForm (a .m) maxViews) networkAt (a .n) (now (a .b)) maxRecorders queuesAt (search needs) (omega arith) (c .before .before .loop .i) (c .before .loop-test .left) (c .before .before .loop .inv .1))
 
 pub valid-network-spec : {M : Type 1} → statement M
 valid-network-spec =

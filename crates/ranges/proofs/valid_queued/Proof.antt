@@ -14,13 +14,10 @@ add-valid-byte c = search needs
 valid-byte-requires-2 : tie.Need-valid-byte-requires-2
 valid-byte-requires-2 c κs = search needs
 
-both-requires : tie.Need-both-requires
-both-requires c κs = search needs
-
 returns : tie.Need-returns
-returns c = cc (queued-part (c .before .before .before .before .args .at) (now (c .before .before .before .before .args .b)))
+returns c = cc (queued-part (c .before .before .before .args .at) (now (c .before .before .before .args .b)))
 
 pub valid-queued-spec : {M : Type 1} → statement M
 valid-queued-spec =
     tie.close
-    (tie.spec valid-byte-requires add-valid-byte valid-byte-requires-2 both-requires returns)
+    (tie.spec valid-byte-requires add-valid-byte valid-byte-requires-2 returns)

@@ -1,4 +1,5 @@
 -- Its fields in turn. Assumes nothing.
+use mathlib.Core.Bool.{and-assoc}
 use borrow.Author.Needs.{needs}
 use Rattle.ranges.specs.CellParts.{recorderRest}
 use Rattle.ranges.proofs.valid_recorder_rest.Statement.{statement}
@@ -22,48 +23,30 @@ add-heard c = search needs
 valid-mark-requires : tie.Need-valid-mark-requires
 valid-mark-requires c κs = search needs
 
-valid-flags-requires : tie.Need-valid-flags-requires
-valid-flags-requires c κs = search needs
-
-add-valid-flags : tie.Need-add-valid-flags
-add-valid-flags c = search needs
-
-valid-flags-requires-2 : tie.Need-valid-flags-requires-2
-valid-flags-requires-2 c κs = search needs
-
-both-requires : tie.Need-both-requires
-both-requires c κs = search needs
-
-valid-flags-requires-3 : tie.Need-valid-flags-requires-3
-valid-flags-requires-3 c κs = search needs
-
-valid-flags-requires-4 : tie.Need-valid-flags-requires-4
-valid-flags-requires-4 c κs = search needs
-
-both-requires-2 : tie.Need-both-requires-2
-both-requires-2 c κs = search needs
-
-both-requires-3 : tie.Need-both-requires-3
-both-requires-3 c κs = search needs
-
 valid-mark-requires-2 : tie.Need-valid-mark-requires-2
 valid-mark-requires-2 c κs = search needs
 
 valid-view-number-requires : tie.Need-valid-view-number-requires
 valid-view-number-requires c κs = search needs
 
-both-requires-4 : tie.Need-both-requires-4
-both-requires-4 c κs = search needs
+valid-flags-requires : tie.Need-valid-flags-requires
+valid-flags-requires c κs = search needs
 
-both-requires-5 : tie.Need-both-requires-5
-both-requires-5 c κs = search needs
+valid-flags-requires-2 : tie.Need-valid-flags-requires-2
+valid-flags-requires-2 c κs = search needs
 
-both-requires-6 : tie.Need-both-requires-6
-both-requires-6 c κs = search needs
+valid-flags-requires-3 : tie.Need-valid-flags-requires-3
+valid-flags-requires-3 c κs = search needs
+
+add-valid-flags : tie.Need-add-valid-flags
+add-valid-flags c = search needs
+
+valid-flags-requires-4 : tie.Need-valid-flags-requires-4
+valid-flags-requires-4 c κs = search needs
 
 returns : tie.Need-returns
 unfolding recorderRest
-returns c = cc
+returns c = simp and-assoc cc
 
 pub valid-recorder-rest-spec : {M : Type 1} → statement M
 valid-recorder-rest-spec =
@@ -75,17 +58,11 @@ valid-recorder-rest-spec =
     add-safe
     add-heard
     valid-mark-requires
-    valid-flags-requires
-    add-valid-flags
-    valid-flags-requires-2
-    both-requires
-    valid-flags-requires-3
-    valid-flags-requires-4
-    both-requires-2
-    both-requires-3
     valid-mark-requires-2
     valid-view-number-requires
-    both-requires-4
-    both-requires-5
-    both-requires-6
+    valid-flags-requires
+    valid-flags-requires-2
+    valid-flags-requires-3
+    add-valid-flags
+    valid-flags-requires-4
     returns)

@@ -6,14 +6,14 @@ use native.Mathlib.Omega.{arith}
 use mathlib.Core.Path.{sym, _∙_}
 use borrow.Author.Tests.{not-true, not-false}
 use Rattle.model.specs.Hall.{maxViews}
-use Rattle.store.specs.CellForms.{placeForm}
+use Rattle.store.specs.CellForms.{endpointForm}
 use Rattle.store.specs.Layout.{rowSize}
 use Rattle.ranges.proofs.Loops.{Left, left-start, left-next, cells-fail, cells-done}
 use Rattle.ranges.proofs.valid_row.Statement.{statement}
 use Rattle.ranges.proofs.valid_row.Tie as tie
 
 abbrev Inv-loop : tie.InvT-loop
-Inv-loop b at m i₀ i = (i ≤ m) × Left placeForm at m b i
+Inv-loop b at m i₀ i = (i ≤ m) × Left endpointForm at m b i
 
 abbrev μ-loop : tie.MeasureT-loop
 μ-loop b at m i₀ i = m - i
@@ -21,23 +21,23 @@ abbrev μ-loop : tie.MeasureT-loop
 loop-holds : tie.Need-loop-holds Inv-loop μ-loop
 loop-holds c =
     let a = c .before .args in
-    (search needs, left-start placeForm (a .at) (a .m) (now (a .b)))
+    (search needs, left-start endpointForm (a .at) (a .m) (now (a .b)))
 
-mul-valid-place : tie.Need-mul-valid-place Inv-loop μ-loop
-mul-valid-place c = search needs
+mul-valid-endpoint : tie.Need-mul-valid-endpoint Inv-loop μ-loop
+mul-valid-endpoint c = search needs
 
-add-valid-place : tie.Need-add-valid-place Inv-loop μ-loop
-add-valid-place c = search needs
+add-valid-endpoint : tie.Need-add-valid-endpoint Inv-loop μ-loop
+add-valid-endpoint c = search needs
 
-valid-place-requires : tie.Need-valid-place-requires Inv-loop μ-loop
-valid-place-requires c κs = search needs
+valid-endpoint-requires : tie.Need-valid-endpoint-requires Inv-loop μ-loop
+valid-endpoint-requires c κs = search needs
 
 returns : tie.Need-returns Inv-loop μ-loop
 returns c =
     let a = c .before .before .before .before .before .args in
     sym
-    (cells-fail placeForm (a .at) (a .m) (now (a .b)) maxViews (a .at + rowSize) (search needs) (omega arith) (c .before .before .before .loop .i) (c .before .before .loop-test .taken)
-    (sym (c .before .valid-place .ensures) ∙ not-true (c .before .valid-place .result) (c .if1 .taken)) (c .before .before .before .loop .inv .1))
+    (cells-fail endpointForm (a .at) (a .m) (now (a .b)) maxViews (a .at + rowSize) (search needs) (omega arith) (c .before .before .before .loop .i) (c .before .before .loop-test .taken)
+    (sym (c .before .valid-endpoint .ensures) ∙ not-true (c .before .valid-endpoint .result) (c .if1 .taken)) (c .before .before .before .loop .inv .1))
 
 add-i : tie.Need-add-i Inv-loop μ-loop
 add-i c = search needs
@@ -49,8 +49,8 @@ loop-again : tie.Need-loop-again Inv-loop μ-loop
 loop-again c =
     let a = c .before .before .before .before .before .args in (
       search needs,
-      left-next placeForm (a .at) (a .m) (now (a .b)) (c .before .before .before .loop .i) (c .before .before .loop-test .taken)
-          (sym (c .before .valid-place .ensures) ∙ not-false (c .before .valid-place .result) (c .if1 .left)) (c .before .before .before .loop .inv .1),
+      left-next endpointForm (a .at) (a .m) (now (a .b)) (c .before .before .before .loop .i) (c .before .before .loop-test .taken)
+          (sym (c .before .valid-endpoint .ensures) ∙ not-false (c .before .valid-endpoint .result) (c .if1 .left)) (c .before .before .before .loop .inv .1),
     )
 
 mul-is-zero : tie.Need-mul-is-zero Inv-loop μ-loop
@@ -69,7 +69,7 @@ returns-2 : tie.Need-returns-2 Inv-loop μ-loop
 returns-2 c =
     let a = c .before .before .before .before .args in
     c .is-zero .ensures
-    ∙ sym (cells-done placeForm (a .at) (a .m) (now (a .b)) maxViews (a .at + rowSize) (search needs) (omega arith) (c .before .before .loop .i) (c .before .loop-test .left) (c .before .before .loop .inv .1))
+    ∙ sym (cells-done endpointForm (a .at) (a .m) (now (a .b)) maxViews (a .at + rowSize) (search needs) (omega arith) (c .before .before .loop .i) (c .before .loop-test .left) (c .before .before .loop .inv .1))
 
 pub valid-row-spec : {M : Type 1} → statement M
 valid-row-spec =
@@ -78,9 +78,9 @@ valid-row-spec =
     Inv-loop
     μ-loop
     loop-holds
-    mul-valid-place
-    add-valid-place
-    valid-place-requires
+    mul-valid-endpoint
+    add-valid-endpoint
+    valid-endpoint-requires
     returns
     add-i
     loop-less

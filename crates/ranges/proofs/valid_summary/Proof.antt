@@ -1,5 +1,6 @@
 -- Its fields in turn. Assumes nothing.
 use denote.Ref.{now}
+use mathlib.Core.Bool.{and-assoc}
 use Rattle.ranges.proofs.CellPartsLaws.{summary-part}
 use Rattle.ranges.proofs.valid_summary.Statement.{statement}
 use Rattle.ranges.proofs.valid_summary.Tie as tie
@@ -26,17 +27,8 @@ add-valid-view-number c = search needs
 valid-view-number-requires : tie.Need-valid-view-number-requires
 valid-view-number-requires c κs = search needs
 
-both-requires : tie.Need-both-requires
-both-requires c κs = search needs
-
-both-requires-2 : tie.Need-both-requires-2
-both-requires-2 c κs = search needs
-
-both-requires-3 : tie.Need-both-requires-3
-both-requires-3 c κs = search needs
-
 returns : tie.Need-returns
-returns c = cc (summary-part (c .before .before .before .before .before .before .before .before .args .at) (now (c .before .before .before .before .before .before .before .before .args .b)))
+returns c = let a = c .before .before .before .before .before .args in simp and-assoc (cc (summary-part (a .at) (now (a .b))))
 
 pub valid-summary-spec : {M : Type 1} → statement M
 valid-summary-spec =
@@ -49,7 +41,4 @@ valid-summary-spec =
     valid-mark-requires
     add-valid-view-number
     valid-view-number-requires
-    both-requires
-    both-requires-2
-    both-requires-3
     returns)

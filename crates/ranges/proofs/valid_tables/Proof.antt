@@ -2,8 +2,8 @@
 use Rattle.ranges.specs.TableParts.{tablesIn}
 use Rattle.ranges.proofs.valid_tables.Statement.{statement}
 use Rattle.ranges.proofs.valid_tables.Tie as tie
-use mathlib.Core.Path.{ap₂, _∙_}
-use mathlib.Core.Bool.{_&&_}
+use mathlib.Core.Path.{ap₂}
+use mathlib.Core.Bool.{_&&_, and-assoc}
 use borrow.Author.Needs.{needs}
 
 valid-entries-requires : tie.Need-valid-entries-requires
@@ -18,22 +18,12 @@ valid-network-requires c κs = search needs
 valid-queues-requires : tie.Need-valid-queues-requires
 valid-queues-requires c κs = search needs
 
-both-requires : tie.Need-both-requires
-both-requires c κs = search needs
-
-both-requires-2 : tie.Need-both-requires-2
-both-requires-2 c κs = search needs
-
-both-requires-3 : tie.Need-both-requires-3
-both-requires-3 c κs = search needs
-
 returns : tie.Need-returns
 unfolding tablesIn
 returns c =
-    c .both3 .ensures
-    ∙ ap₂ _&&_ (c .before .before .before .before .before .before .valid-entries .ensures)
-    (c .before .both2 .ensures
-    ∙ ap₂ _&&_ (c .before .before .before .before .before .valid-recorders .ensures) (c .before .before .both .ensures ∙ ap₂ _&&_ (c .before .before .before .before .valid-network .ensures) (c .before .before .before .valid-queues .ensures)))
+    simp and-assoc
+    (ap₂ _&&_ (c .before .before .before .valid-entries .ensures)
+    (ap₂ _&&_ (c .before .before .valid-recorders .ensures) (ap₂ _&&_ (c .before .valid-network .ensures) (c .valid-queues .ensures))))
 
 pub valid-tables-spec : {M : Type 1} → statement M
 valid-tables-spec =
@@ -43,7 +33,4 @@ valid-tables-spec =
     valid-recorders-requires
     valid-network-requires
     valid-queues-requires
-    both-requires
-    both-requires-2
-    both-requires-3
     returns)

@@ -22,11 +22,8 @@ valid-view-cells-requires c κs = search needs
 views-rise-requires : tie.Need-views-rise-requires
 views-rise-requires c κs = search needs
 
-both-requires : tie.Need-both-requires
-both-requires c κs = search needs
-
 returns-2 : tie.Need-returns-2
-returns-2 c = cc (views-part (c .before .before .before .before .before .before .args .n) (now (c .before .before .before .before .before .before .args .b)) (search needs) (c .before .before .before .if1 .left))
+returns-2 c = let a = c .before .before .before .before .before .args in cc (views-part (a .n) (now (a .b)) (search needs) (c .before .before .if1 .left))
 
 pub valid-views-spec : {M : Type 1} → statement M
 valid-views-spec =
@@ -37,5 +34,4 @@ valid-views-spec =
     returns
     valid-view-cells-requires
     views-rise-requires
-    both-requires
     returns-2)

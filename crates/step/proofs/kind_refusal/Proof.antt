@@ -1,20 +1,22 @@
 -- `step::kind_refusal` meets its contract. Assumes nothing.
-use native.Mathlib.Omega.{arith}
+use mathlib.Core.Path.{ap, _∙_}
+use mathlib.Core.Bool.{Bool}
+use borrow.Author.Needs.{needs}
+use Rattle.base.specs.Chains.{refuse}
 use Rattle.model.specs.Kinds.{kinds, lastKind}
 use Rattle.step.proofs.StepsLaws as steps
 use Rattle.step.proofs.kind_refusal.Statement.{statement}
 use Rattle.step.proofs.kind_refusal.Tie as tie
 
+is-outside-requires : tie.Need-is-outside-requires
+is-outside-requires c κs = search needs
+
+refusal-requires : tie.Need-refusal-requires
+refusal-requires c κs = search needs
+
 returns : tie.Need-returns
-returns c = steps.number-low _ (c .if1 .taken)
-
-returns-2 : tie.Need-returns-2
 unfolding lastKind kinds
-returns-2 c = steps.number-high _ (c .if2 .taken)
-
-returns-3 : tie.Need-returns-3
-unfolding lastKind kinds
-returns-3 c = steps.number-kind _ (omega (arith, c .before .if1 .left)) (omega (arith, c .if2 .left))
+returns c = c .refusal .ensures ∙ ap (λ (t : Bool). refuse t 11) (c .before .is-outside .ensures) ∙ steps.number-test _
 
 pub kind-refusal-spec : {M : Type 1} → statement M
-kind-refusal-spec = tie.close (tie.spec returns returns-2 returns-3)
+kind-refusal-spec = tie.close (tie.spec is-outside-requires refusal-requires returns)

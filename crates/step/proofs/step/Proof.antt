@@ -20,12 +20,12 @@ same-length c = search needs
 returns : tie.Need-returns
 returns c =
     let a = c .before .before .before .before .before .before .args in
-    steps.early-refused (now (a .b)) (a .k) (a .r) (a .a) (a .d) _ _ _ (c .before .before .before .before .kind-refusal .ensures) (c .before .before .bytes-refusal .ensures) (c .before .first .ensures) (c .if1 .taken)
+    steps.early-refused (now (a .bytes)) (a .k) (a .r) (a .a) (a .b) _ _ _ (c .before .before .before .before .kind-refusal .ensures) (c .before .before .bytes-refusal .ensures) (c .before .first .ensures) (c .if1 .taken)
 
 step-hall-requires : tie.Need-step-hall-requires
 step-hall-requires c κs =
     let a = c .before .before .before .before .before .before .before .args in
-    steps.early-passed (now (a .b)) (a .k) (a .r) (a .a) (a .d) _ _ _ (c .before .before .before .before .before .kind-refusal .ensures) (c .before .before .before .bytes-refusal .ensures) (c .before .before .first .ensures) (c .before .if1 .left)
+    steps.early-passed (now (a .bytes)) (a .k) (a .r) (a .a) (a .b) _ _ _ (c .before .before .before .before .before .kind-refusal .ensures) (c .before .before .before .bytes-refusal .ensures) (c .before .before .first .ensures) (c .before .if1 .left)
 
 same-length-2 : tie.Need-same-length-2
 same-length-2 c = search needs

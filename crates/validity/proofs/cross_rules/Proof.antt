@@ -1,11 +1,11 @@
 -- Labels, recorders and views. Assumes nothing.
 use denote.Ref.{now}
 use mathlib.Core.Path.{sym, ap₂, _∙_}
-use mathlib.Core.Bool.{_&&_}
+use mathlib.Core.Bool.{_&&_, and-assoc}
 use Rattle.validity.proofs.CrossPartsLaws.{labels-apart, cross-parts}
+use borrow.Author.Needs.{needs}
 use Rattle.validity.proofs.cross_rules.Statement.{statement}
 use Rattle.validity.proofs.cross_rules.Tie as tie
-use borrow.Author.Needs.{needs}
 
 labels-of-requires : tie.Need-labels-of-requires
 labels-of-requires c κs = search needs
@@ -37,19 +37,13 @@ recorders-cross-requires c κs = search needs
 views-cross-requires : tie.Need-views-cross-requires
 views-cross-requires c κs = search needs
 
-both-requires : tie.Need-both-requires
-both-requires c κs = search needs
-
-both-requires-2 : tie.Need-both-requires-2
-both-requires-2 c κs = search needs
-
 returns : tie.Need-returns
 returns c =
-    let b = now (c .before .before .before .before .before .before .before .before .before .before .before .before .args .b) in
-    let K = c .before .before .before .before .before .before .before .before .before .before .before .before .pre .held in
-    c .both2 .ensures
-    ∙ ap₂ _&&_ (c .before .before .before .before .before .before .labels-alone .ensures ∙ sym (labels-apart b K)) (c .before .both .ensures ∙ ap₂ _&&_ (c .before .before .before .before .recorders-cross .ensures) (c .before .before .views-cross .ensures))
-    ∙ sym (cross-parts b K)
+    let b = now (c .before .before .before .before .before .before .before .before .before .before .args .b) in
+    let K = c .before .before .before .before .before .before .before .before .before .before .pre .held in
+    simp and-assoc
+    (ap₂ _&&_ (c .before .before .before .before .labels-alone .ensures ∙ sym (labels-apart b K)) (ap₂ _&&_ (c .before .before .recorders-cross .ensures) (c .views-cross .ensures))
+    ∙ sym (cross-parts b K))
 
 pub cross-rules-spec : {M : Type 1} → statement M
 cross-rules-spec =
@@ -65,6 +59,4 @@ cross-rules-spec =
     labels-alone-requires
     recorders-cross-requires
     views-cross-requires
-    both-requires
-    both-requires-2
     returns)

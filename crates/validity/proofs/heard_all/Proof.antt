@@ -5,7 +5,6 @@ use Prim.Native.Nat.{_-_, _≤_}
 use mathlib.Core.Path.{_≡_, sym, _∙_}
 use mathlib.Core.Bool.{true}
 use borrow.Author.Tests.{not-true, not-false}
-use lib.ListN.{getD}
 use Rattle.base.specs.Numbers.{upTo}
 use Rattle.base.specs.Lists.{all}
 use Rattle.model.specs.Hall.{maxRecorders}
@@ -15,7 +14,7 @@ use Rattle.validity.proofs.heard_all.Statement.{statement}
 use Rattle.validity.proofs.heard_all.Tie as tie
 
 abbrev Inv-loop : tie.InvT-loop
-Inv-loop b at set i j₀ j = (j ≤ maxRecorders) × (all (heardOk b at (getD b 0 0) set i) (upTo j) ≡ true)
+Inv-loop b at set i j₀ j = (j ≤ maxRecorders) × (all (heardOk b at set i) (upTo j) ≡ true)
 
 abbrev μ-loop : tie.MeasureT-loop
 μ-loop b at set i j₀ j = maxRecorders - j
@@ -23,7 +22,7 @@ abbrev μ-loop : tie.MeasureT-loop
 loop-holds : tie.Need-loop-holds Inv-loop μ-loop
 loop-holds c =
     let a = c .before .args in
-    (search needs, all-none (heardOk (now (a .b)) (a .at) (getD (now (a .b)) 0 0) (a .set) (a .i)))
+    (search needs, all-none (heardOk (now (a .b)) (a .at) (a .set) (a .i)))
 
 add-heard-one : tie.Need-add-heard-one Inv-loop μ-loop
 add-heard-one c = search needs
@@ -34,7 +33,7 @@ heard-one-requires c κs = search needs
 returns : tie.Need-returns Inv-loop μ-loop
 returns c =
     let a = c .before .before .before .before .before .args in
-    sym (all-fail (heardOk (now (a .b)) (a .at) (getD (now (a .b)) 0 0) (a .set) (a .i)) maxRecorders (c .before .before .before .loop .j) (c .before .before .loop-test .taken) (sym (c .before .heard-one .ensures) ∙ not-true (c .before .heard-one .result) (c .if1 .taken)))
+    sym (all-fail (heardOk (now (a .b)) (a .at) (a .set) (a .i)) maxRecorders (c .before .before .before .loop .j) (c .before .before .loop-test .taken) (sym (c .before .heard-one .ensures) ∙ not-true (c .before .heard-one .result) (c .if1 .taken)))
 
 add-j : tie.Need-add-j Inv-loop μ-loop
 add-j c = search needs
@@ -45,12 +44,12 @@ loop-less c = search needs
 loop-again : tie.Need-loop-again Inv-loop μ-loop
 loop-again c =
     let a = c .before .before .before .before .before .args in
-    (search needs, all-next (heardOk (now (a .b)) (a .at) (getD (now (a .b)) 0 0) (a .set) (a .i)) (c .before .before .before .loop .j) (c .before .before .before .loop .inv .1) (sym (c .before .heard-one .ensures) ∙ not-false (c .before .heard-one .result) (c .if1 .left)))
+    (search needs, all-next (heardOk (now (a .b)) (a .at) (a .set) (a .i)) (c .before .before .before .loop .j) (c .before .before .before .loop .inv .1) (sym (c .before .heard-one .ensures) ∙ not-false (c .before .heard-one .result) (c .if1 .left)))
 
 returns-2 : tie.Need-returns-2 Inv-loop μ-loop
 returns-2 c =
     let a = c .before .before .before .args in
-    sym (all-done (heardOk (now (a .b)) (a .at) (getD (now (a .b)) 0 0) (a .set) (a .i)) maxRecorders (c .before .loop .j) (c .before .loop .inv .0) (c .loop-test .left) (c .before .loop .inv .1))
+    sym (all-done (heardOk (now (a .b)) (a .at) (a .set) (a .i)) maxRecorders (c .before .loop .j) (c .before .loop .inv .0) (c .loop-test .left) (c .before .loop .inv .1))
 
 pub heard-all-spec : {M : Type 1} → statement M
 heard-all-spec =

@@ -2,10 +2,10 @@
 use mathlib.Core.Path.{sym, ap₂, _∙_}
 use mathlib.Core.Bool.{_&&_}
 use Rattle.validity.specs.Marks.{heardOk}
-use Rattle.validity.proofs.MarksLaws.{flag-on, flag-off}
+use Rattle.validity.proofs.MarksLaws.{flag-on, unset}
+use borrow.Author.Needs.{needs}
 use Rattle.validity.proofs.heard_one.Statement.{statement}
 use Rattle.validity.proofs.heard_one.Tie as tie
-use borrow.Author.Needs.{needs}
 
 sub-if1 : tie.Need-sub-if1
 sub-if1 c = search needs
@@ -25,16 +25,13 @@ is-member-requires c κs = search needs
 is-sent-requires : tie.Need-is-sent-requires
 is-sent-requires c κs = search needs
 
-both-requires : tie.Need-both-requires
-both-requires c κs = search needs
-
 returns : tie.Need-returns
 unfolding heardOk
-returns c = c .both .ensures ∙ ap₂ _&&_ (c .before .before .is-member .ensures) (c .before .is-sent .ensures) ∙ sym (flag-on _ _ (c .before .before .before .before .if1 .taken))
+returns c = unset _ _ (c .if1 .taken)
 
 returns-2 : tie.Need-returns-2
 unfolding heardOk
-returns-2 c = sym (flag-off _ _ (c .if1 .left))
+returns-2 c = ap₂ _&&_ (c .before .is-member .ensures) (c .is-sent .ensures) ∙ sym (flag-on _ _ (c .before .before .before .if1 .left))
 
 pub heard-one-spec : {M : Type 1} → statement M
 heard-one-spec =
@@ -46,6 +43,5 @@ heard-one-spec =
     shared-slice-read-is-member
     is-member-requires
     is-sent-requires
-    both-requires
     returns
     returns-2)

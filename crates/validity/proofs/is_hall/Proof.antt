@@ -4,9 +4,9 @@ use native.Mathlib.Omega.{arith}
 use mathlib.Core.Path.{sym, _∙_}
 use Rattle.validity.proofs.RawHallLaws.{ranged}
 use Rattle.validity.proofs.CodeLaws.{stored-short, fields-held, stored-range, stored-cross}
+use borrow.Author.Needs.{needs}
 use Rattle.validity.proofs.is_hall.Statement.{statement}
 use Rattle.validity.proofs.is_hall.Tie as tie
-use borrow.Author.Needs.{needs}
 
 returns : tie.Need-returns
 returns c = sym (stored-short (now (c .before .before .args .b)) (c .if1 .taken))
@@ -28,7 +28,8 @@ returns-2 c =
 
 returns-3 : tie.Need-returns-3
 returns-3 c =
-    sym
+    c .if2 .left
+    ∙ sym
     (stored-range (now (c .before .before .before .before .args .b)) (c .before .before .if1 .left) (λ i. omega (arith, c .before .before .before .shared-slice-known .given i)) (sym (c .before .in-range .ensures) ∙ c .if2 .left))
 
 pub is-hall-spec : {M : Type 1} → statement M

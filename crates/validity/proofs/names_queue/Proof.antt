@@ -11,7 +11,7 @@ use Rattle.codec.specs.Cells.{decodeAll}
 use Rattle.store.specs.Valid.{queueNames}
 use Rattle.store.specs.CellForms.{queuedForm}
 use Rattle.store.specs.Layout.{queuedSize, queueSize, queuesAt}
-use Rattle.validity.specs.Alls.{viewAt}
+use Rattle.ranges.specs.TableParts.{viewAt}
 use Rattle.validity.specs.RawHall.{raw}
 use Rattle.validity.proofs.RawCells.{queue-count}
 use Rattle.validity.proofs.CrossPartsLaws.{queue-all, queue-fail, queue-next, queue-done}
@@ -44,8 +44,8 @@ loop-holds c =
     let a = c .before .before .args in
     let h = c .before .before .pre in (
       search needs,
-      queue-count (now (a .b)) (h .0 .held) (a .i) (h .1 .0),
-      queue-all (now (a .b)) (h .0 .held) (now (a .labels)) (h .1 .1) (a .i) (h .1 .0),
+      queue-count (now (a .b)) (h .ranged .held) (a .i) (h .formed),
+      queue-all (now (a .b)) (h .ranged .held) (now (a .labels)) (h .labels) (a .i) (h .formed),
     )
 
 add-names-queued : tie.Need-add-names-queued Inv-loop μ-loop
@@ -67,7 +67,7 @@ returns c =
     let b = now (a .b) in
     sym
     (c .before .before .before .loop .inv .2
-    ∙ queue-fail b (h .0 .held) (now (a .labels)) (h .1 .1) (a .i) (h .1 .0) (queuesAt + a .i * queueSize + 1) (getD b (queuesAt + a .i * queueSize) 0) (c .before .before .before .loop .j) (c .before .before .loop-test .taken) (omega arith)
+    ∙ queue-fail b (h .ranged .held) (now (a .labels)) (h .labels) (a .i) (h .formed) (queuesAt + a .i * queueSize + 1) (getD b (queuesAt + a .i * queueSize) 0) (c .before .before .before .loop .j) (c .before .before .loop-test .taken) (omega arith)
     (sym (c .before .names-queued .ensures) ∙ not-true (c .before .names-queued .result) (c .if1 .taken)))
 
 add-j : tie.Need-add-j Inv-loop μ-loop
@@ -84,7 +84,7 @@ loop-again c =
       search needs,
       search needs,
       c .before .before .before .loop .inv .2
-          ∙ queue-next b (h .0 .held) (now (a .labels)) (h .1 .1) (a .i) (h .1 .0) (queuesAt + a .i * queueSize + 1) (getD b (queuesAt + a .i * queueSize) 0) (c .before .before .before .loop .j) (c .before .before .loop-test .taken) (omega arith)
+          ∙ queue-next b (h .ranged .held) (now (a .labels)) (h .labels) (a .i) (h .formed) (queuesAt + a .i * queueSize + 1) (getD b (queuesAt + a .i * queueSize) 0) (c .before .before .before .loop .j) (c .before .before .loop-test .taken) (omega arith)
           (sym (c .before .names-queued .ensures) ∙ not-false (c .before .names-queued .result) (c .if1 .left)),
     )
 
@@ -95,7 +95,7 @@ returns-2 c =
     let b = now (a .b) in
     sym
     (c .before .loop .inv .2
-    ∙ queue-done b (h .0 .held) (now (a .labels)) (h .1 .1) (a .i) (h .1 .0) (queuesAt + a .i * queueSize + 1) (getD b (queuesAt + a .i * queueSize) 0) (c .before .loop .j) (c .loop-test .left))
+    ∙ queue-done b (h .ranged .held) (now (a .labels)) (h .labels) (a .i) (h .formed) (queuesAt + a .i * queueSize + 1) (getD b (queuesAt + a .i * queueSize) 0) (c .before .loop .j) (c .loop-test .left))
 
 pub names-queue-spec : {M : Type 1} → statement M
 names-queue-spec =

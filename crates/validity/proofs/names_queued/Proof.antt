@@ -5,13 +5,13 @@ use native.Mathlib.Omega.{arith}
 use mathlib.Core.Path.{sym, ap, _∙_}
 use mathlib.Core.Bool.{Bool}
 use lib.ListN.{getD}
-use borrow.Author.Needs.{needs}
 use Rattle.base.specs.Lists.{has}
 use Rattle.quorum.specs.Sets.{members}
 use Rattle.quorum.proofs.SetLaws.{members-range}
 use Rattle.validity.specs.Marks.{messageMarked}
 use Rattle.validity.specs.RawHall.{sizeAt}
 use Rattle.validity.proofs.CodeLaws.{queued-member, queued-other}
+use borrow.Author.Needs.{needs}
 use Rattle.validity.proofs.names_queued.Statement.{statement}
 use Rattle.validity.proofs.names_queued.Tie as tie
 
@@ -58,7 +58,8 @@ returns-2 : tie.Need-returns-2
 returns-2 c =
     let a = c .before .before .before .before .before .before .args in
     let b = now (a .b) in
-    sym
+    c .if1 .left
+    ∙ sym
     (queued-other (now (a .labels)) b (a .i) (a .at)
     (ap (λ (z : ℕ). has (members (sizeAt b) z) (getD b (a .at) 0)) (sym (c .before .before .view-set .ensures)) ∙ sym (c .before .is-member .ensures) ∙ c .if1 .left))
 

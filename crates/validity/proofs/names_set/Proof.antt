@@ -24,16 +24,16 @@ loop-holds c =
     let a = c .before .args in
     (search needs, all-none (setOk (now (a .labels)) (now (a .b)) (a .at)))
 
-add-in-set : tie.Need-add-in-set Inv-loop μ-loop
-add-in-set c = search needs
+add-labelled-if-set : tie.Need-add-labelled-if-set Inv-loop μ-loop
+add-labelled-if-set c = search needs
 
-in-set-requires : tie.Need-in-set-requires Inv-loop μ-loop
-in-set-requires c κs = search needs
+labelled-if-set-requires : tie.Need-labelled-if-set-requires Inv-loop μ-loop
+labelled-if-set-requires c κs = search needs
 
 returns : tie.Need-returns Inv-loop μ-loop
 returns c =
     let a = c .before .before .before .before .before .args in
-    sym (all-fail (setOk (now (a .labels)) (now (a .b)) (a .at)) maxEntries (c .before .before .before .loop .j) (c .before .before .loop-test .taken) (sym (c .before .in-set .ensures) ∙ not-true (c .before .in-set .result) (c .if1 .taken)))
+    sym (all-fail (setOk (now (a .labels)) (now (a .b)) (a .at)) maxEntries (c .before .before .before .loop .j) (c .before .before .loop-test .taken) (sym (c .before .labelled-if-set .ensures) ∙ not-true (c .before .labelled-if-set .result) (c .if1 .taken)))
 
 add-j : tie.Need-add-j Inv-loop μ-loop
 add-j c = search needs
@@ -44,7 +44,7 @@ loop-less c = search needs
 loop-again : tie.Need-loop-again Inv-loop μ-loop
 loop-again c =
     let a = c .before .before .before .before .before .args in
-    (search needs, all-next (setOk (now (a .labels)) (now (a .b)) (a .at)) (c .before .before .before .loop .j) (c .before .before .before .loop .inv .1) (sym (c .before .in-set .ensures) ∙ not-false (c .before .in-set .result) (c .if1 .left)))
+    (search needs, all-next (setOk (now (a .labels)) (now (a .b)) (a .at)) (c .before .before .before .loop .j) (c .before .before .before .loop .inv .1) (sym (c .before .labelled-if-set .ensures) ∙ not-false (c .before .labelled-if-set .result) (c .if1 .left)))
 
 returns-2 : tie.Need-returns-2 Inv-loop μ-loop
 returns-2 c =
@@ -58,8 +58,8 @@ names-set-spec =
     Inv-loop
     μ-loop
     loop-holds
-    add-in-set
-    in-set-requires
+    add-labelled-if-set
+    labelled-if-set-requires
     returns
     add-j
     loop-less

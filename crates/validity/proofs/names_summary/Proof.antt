@@ -3,9 +3,9 @@ use mathlib.Core.Path.{sym, ap₂, _∙_}
 use mathlib.Core.Bool.{_&&_}
 use Rattle.validity.proofs.MarksLaws.{flag-on, flag-off}
 use Rattle.validity.specs.CrossParts.{summaryOk}
+use borrow.Author.Needs.{needs}
 use Rattle.validity.proofs.names_summary.Statement.{statement}
 use Rattle.validity.proofs.names_summary.Tie as tie
-use borrow.Author.Needs.{needs}
 
 add-if1 : tie.Need-add-if1
 add-if1 c = search needs
@@ -25,12 +25,9 @@ add-names-all c = search needs
 names-all-requires : tie.Need-names-all-requires
 names-all-requires c κs = search needs
 
-both-requires : tie.Need-both-requires
-both-requires c κs = search needs
-
 returns : tie.Need-returns
 unfolding summaryOk
-returns c = c .both .ensures ∙ ap₂ _&&_ (c .before .before .names-set .ensures) (c .before .names-all .ensures) ∙ sym (flag-on _ _ (c .before .before .before .if1 .taken))
+returns c = ap₂ _&&_ (c .before .names-set .ensures) (c .names-all .ensures) ∙ sym (flag-on _ _ (c .before .before .if1 .taken))
 
 returns-2 : tie.Need-returns-2
 unfolding summaryOk
@@ -46,6 +43,5 @@ names-summary-spec =
     names-set-requires
     add-names-all
     names-all-requires
-    both-requires
     returns
     returns-2)

@@ -1,19 +1,19 @@
--- Its rules in turn, its current view's place found. Assumes nothing.
+-- Its rules in turn, its current view's index found. Assumes nothing.
 use denote.Ref.{now}
 use Prim.Native.Nat.{ℕ, _+_, _-_, _*_}
 use mathlib.Core.Path.{sym, ap, ap₂, subst, _∙_}
-use mathlib.Core.Bool.{_&&_, _||_}
+use mathlib.Core.Bool.{_&&_, _||_, and-assoc}
 use lib.Dec.{eqb}
-use borrow.Author.Needs.{needs}
 use Rattle.base.specs.Lists.{has, all}
 use Rattle.base.specs.Numbers.{upTo}
 use Rattle.quorum.specs.Sets.{members}
 use Rattle.model.specs.Hall.{maxRecorders}
 use Rattle.store.specs.Layout.{recorderHeardAt, recorderSafeSourcesAt, recorderSize, recordersAt}
-use Rattle.validity.specs.Alls.{Found}
+use Rattle.ranges.specs.TableParts.{Found}
 use Rattle.validity.specs.Marks.{heardOk, sourceOk}
 use Rattle.validity.specs.RawHall.{sizeAt, viewCount}
 use Rattle.validity.proofs.CrossPartsLaws.{recorder-cross}
+use borrow.Author.Needs.{needs}
 use Rattle.validity.proofs.recorder_cross.Statement.{statement}
 use Rattle.validity.proofs.recorder_cross.Tie as tie
 
@@ -53,6 +53,24 @@ add-names-set c = search needs
 names-set-requires : tie.Need-names-set-requires
 names-set-requires c κs = search needs
 
+add-names-all : tie.Need-add-names-all
+add-names-all c = search needs
+
+names-all-requires : tie.Need-names-all-requires
+names-all-requires c κs = search needs
+
+add-names-all-2 : tie.Need-add-names-all-2
+add-names-all-2 c = search needs
+
+names-all-requires-2 : tie.Need-names-all-requires-2
+names-all-requires-2 c κs = search needs
+
+add-names-set-2 : tie.Need-add-names-set-2
+add-names-set-2 c = search needs
+
+names-set-requires-2 : tie.Need-names-set-requires-2
+names-set-requires-2 c κs = search needs
+
 add-heard-all : tie.Need-add-heard-all
 add-heard-all c = search needs
 
@@ -65,67 +83,26 @@ add-source-all c = search needs
 source-all-requires : tie.Need-source-all-requires
 source-all-requires c κs = search needs
 
-both-requires : tie.Need-both-requires
-both-requires c κs = search needs
-
-add-names-set-2 : tie.Need-add-names-set-2
-add-names-set-2 c = search needs
-
-names-set-requires-2 : tie.Need-names-set-requires-2
-names-set-requires-2 c κs = search needs
-
-both-requires-2 : tie.Need-both-requires-2
-both-requires-2 c κs = search needs
-
-add-names-all : tie.Need-add-names-all
-add-names-all c = search needs
-
-names-all-requires : tie.Need-names-all-requires
-names-all-requires c κs = search needs
-
-both-requires-3 : tie.Need-both-requires-3
-both-requires-3 c κs = search needs
-
-add-names-all-2 : tie.Need-add-names-all-2
-add-names-all-2 c = search needs
-
-names-all-requires-2 : tie.Need-names-all-requires-2
-names-all-requires-2 c κs = search needs
-
-both-requires-4 : tie.Need-both-requires-4
-both-requires-4 c κs = search needs
-
-both-requires-5 : tie.Need-both-requires-5
-both-requires-5 c κs = search needs
-
-both-requires-6 : tie.Need-both-requires-6
-both-requires-6 c κs = search needs
-
 returns : tie.Need-returns
 returns c =
-    let a = c .before .before .before .before .before .before .before .before .before .before .before .before .before .before .before .before .before .before .before .args in
-    let h = c .before .before .before .before .before .before .before .before .before .before .before .before .before .before .before .before .before .before .before .pre in
+    let a = c .before .before .before .before .before .before .before .before .before .before .before .before .before .args in
+    let h = c .before .before .before .before .before .before .before .before .before .before .before .before .before .pre in
     let b = now (a .b) in
-    let i = c .before .before .before .before .before .before .before .before .before .before .before .before .before .before .before .find-view .result in
+    let i = c .before .before .before .before .before .before .before .before .before .find-view .result in
     let at : ℕ = recordersAt + (a .r - 1) * recorderSize in
-    let g = c .before .before .before .before .before .before .before .before .before .before .before .before .before .before .before .before .before .get-u32 .ensures in
-    let s = c .before .before .before .before .before .before .before .before .before .before .before .before .before .before .view-set .ensures in
-    c .both6 .ensures
-    ∙ ap₂ _&&_ (c .before .before .before .before .before .before .before .before .before .before .before .before .in-view .ensures ∙ ap₂ (λ (z w : ℕ). eqb z 0 || has (members (sizeAt b) w) (a .r)) g s)
-    (c .before .both5 .ensures
-    ∙ ap₂ _&&_ (c .before .before .before .before .before .before .before .before .before .before .before .names-set .ensures)
-    (c .before .before .both4 .ensures
-    ∙ ap₂ _&&_ (c .before .before .before .names-all2 .ensures)
-    (c .before .before .before .before .both3 .ensures
-    ∙ ap₂ _&&_ (c .before .before .before .before .before .names-all .ensures)
-    (c .before .before .before .before .before .before .both2 .ensures
-    ∙ ap₂ _&&_ (c .before .before .before .before .before .before .before .names-set2 .ensures)
-    (c .before .before .before .before .before .before .before .before .both .ensures
-    ∙ ap₂ _&&_ (c .before .before .before .before .before .before .before .before .before .before .heard-all .ensures ∙ ap (λ (w : ℕ). all (heardOk b (at + recorderHeardAt) (sizeAt b) w i) (upTo maxRecorders)) s)
-    (c .before .before .before .before .before .before .before .before .before .source-all .ensures ∙ ap (λ (w : ℕ). all (sourceOk b (at + recorderSafeSourcesAt) (sizeAt b) w) (upTo maxRecorders)) s))))))
+    let g = c .before .before .before .before .before .before .before .before .before .before .before .get-u32 .ensures in
+    let s = c .before .before .before .before .before .before .before .before .view-set .ensures in
+    simp and-assoc
+    (ap₂ _&&_ (c .before .before .before .before .before .before .in-view .ensures ∙ ap₂ (λ (z w : ℕ). eqb z 0 || has (members (sizeAt b) w) (a .r)) g s)
+    (ap₂ _&&_ (c .before .before .before .before .before .names-set .ensures)
+    (ap₂ _&&_ (c .before .before .before .before .names-all .ensures)
+    (ap₂ _&&_ (c .before .before .before .names-all2 .ensures)
+    (ap₂ _&&_ (c .before .before .names-set2 .ensures)
+    (ap₂ _&&_ (c .before .heard-all .ensures ∙ ap (λ (w : ℕ). all (heardOk b (at + recorderHeardAt) w i) (upTo maxRecorders)) s)
+    (c .source-all .ensures ∙ ap (λ (w : ℕ). all (sourceOk b (at + recorderSafeSourcesAt) w) (upTo maxRecorders)) s)))))))
     ∙ sym
-    (recorder-cross b (h .0 .held) (now (a .labels)) (h .1 .0) (a .r) (h .1 .1) (h .1 .2) i
-    (subst (λ (z : ℕ). Found (viewCount b) b z i) g (c .before .before .before .before .before .before .before .before .before .before .before .before .before .before .before .find-view .ensures)))
+    (recorder-cross b (h .0 .ranged .held) (now (a .labels)) (h .0 .labels) (a .r) (h .1 .0) (h .1 .1) i
+    (subst (λ (z : ℕ). Found (viewCount b) b z i) g (c .before .before .before .before .before .before .before .before .before .find-view .ensures)))
 
 pub recorder-cross-spec : {M : Type 1} → statement M
 recorder-cross-spec =
@@ -143,20 +120,14 @@ recorder-cross-spec =
     in-view-requires
     add-names-set
     names-set-requires
+    add-names-all
+    names-all-requires
+    add-names-all-2
+    names-all-requires-2
+    add-names-set-2
+    names-set-requires-2
     add-heard-all
     heard-all-requires
     add-source-all
     source-all-requires
-    both-requires
-    add-names-set-2
-    names-set-requires-2
-    both-requires-2
-    add-names-all
-    names-all-requires
-    both-requires-3
-    add-names-all-2
-    names-all-requires-2
-    both-requires-4
-    both-requires-5
-    both-requires-6
     returns)

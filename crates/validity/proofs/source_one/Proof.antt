@@ -1,10 +1,10 @@
 -- By the flag. Assumes nothing.
 use mathlib.Core.Path.{sym, _∙_}
 use Rattle.validity.specs.Marks.{sourceOk}
-use Rattle.validity.proofs.MarksLaws.{flag-on, flag-off}
+use Rattle.validity.proofs.MarksLaws.{flag-on, unset}
+use borrow.Author.Needs.{needs}
 use Rattle.validity.proofs.source_one.Statement.{statement}
 use Rattle.validity.proofs.source_one.Tie as tie
-use borrow.Author.Needs.{needs}
 
 sub-if1 : tie.Need-sub-if1
 sub-if1 c = search needs
@@ -23,11 +23,11 @@ is-member-requires c κs = search needs
 
 returns : tie.Need-returns
 unfolding sourceOk
-returns c = c .is-member .ensures ∙ sym (flag-on _ _ (c .before .before .if1 .taken))
+returns c = unset _ _ (c .if1 .taken)
 
 returns-2 : tie.Need-returns-2
 unfolding sourceOk
-returns-2 c = sym (flag-off _ _ (c .if1 .left))
+returns-2 c = c .is-member .ensures ∙ sym (flag-on _ _ (c .before .before .if1 .left))
 
 pub source-one-spec : {M : Type 1} → statement M
 source-one-spec =

@@ -13,15 +13,14 @@ use Rattle.words.specs.declared.Use.{Use}
 use Rattle.words.specs.declared.Use.the-variants.{Unused, Word, Recorder, Number, Set}
 use Rattle.words.specs.Words.{useOf}
 use Rattle.words.proofs.Use.{the-type}
-use Rattle.words.proofs.WordsLaws.{names-above}
 use Rattle.words.proofs.wrong_set.Statement.{statement}
 use Rattle.words.proofs.wrong_set.Tie as tie
 
 enum-told : tie.Need-enum-told
 enum-told c = search needs
 
-shr-result : tie.Need-shr-result
-shr-result c = search needs
+names-above-requires : tie.Need-names-above-requires
+names-above-requires c κs = search needs
 
 returns : tie.Need-returns
 unfolding wrongSet useOf
@@ -33,10 +32,10 @@ returns c =
 returns-2 : tie.Need-returns-2
 unfolding wrongSet useOf
 returns-2 c =
-    let a = c .before .before .before .args in
-    names-above (a .n) (a .w)
-    ∙ sym (ap (λ t. t || leb (2 ^ a .n) (a .w)) (ne-eqb (a .w) 0 (c .if1 .left)))
-    ∙ sym (ap (λ u. wrongSet (a .n) (useOf u) (a .w)) (c .before .enum-told .given .1))
+    let a = c .before .before .before .before .args in
+    c .names-above .ensures
+    ∙ sym (ap (λ t. t || leb (2 ^ a .n) (a .w)) (ne-eqb (a .w) 0 (c .before .if1 .left)))
+    ∙ sym (ap (λ u. wrongSet (a .n) (useOf u) (a .w)) (c .before .before .enum-told .given .1))
 
 returns-3 : tie.Need-returns-3
 unfolding wrongSet useOf
@@ -50,4 +49,4 @@ returns-3 c = other (c .before .args .u) (c .match .keys2)
     other Set k = absurd (miss (0 ∷ 1 ∷ 2 ∷ 3 ∷ []) 4 tt k)
 
 pub wrong-set-spec : {M : Type 1} → statement M
-wrong-set-spec = tie.close (tie.spec enum-told shr-result returns returns-2 returns-3)
+wrong-set-spec = tie.close (tie.spec enum-told names-above-requires returns returns-2 returns-3)
