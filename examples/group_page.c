@@ -1,10 +1,10 @@
 /*
  * The group page: a program to start from.
  *
- *     group_page N FOUNDERS RECORDER < ACTIONS
+ *     group_page [--record FILE] N FOUNDERS RECORDER < ACTIONS
  *
  * Opens a hall of N recorders. FOUNDERS is the set of the first view, a mask
- * with bit k - 1 for recorder k, or the word `whole` for the whole hall. Then
+ * with bit k - 1 for recorder k; 0 or the word `whole` is the whole hall. Then
  * takes actions from standard input and last shows the group page of RECORDER.
  *
  * A line of the input is one of
@@ -14,20 +14,34 @@
  *
  * A refused action changes nothing; the refusal is explained in words.
  *
- * The exit status is 0, or 1 if a line is not understood, or the opening or a
- * page is refused, or 2 if the command line is wrong or there is no memory.
+ * With --record, FILE becomes a run file of the opening and all actions given,
+ * refused ones too; ./replay FILE lists it.
+ *
+ * The exit status is 0, or 1 if a line is not understood, the opening or a page
+ * is refused, the input cannot be read, or the output or FILE cannot be
+ * written, or 2 if the command line is wrong or there is no memory.
  *
  * Build: cc -Iinclude examples/group_page.c target/staticlib/libcapi.a
  */
 #include "hall.h"
 
+#include <errno.h>
 #include <inttypes.h>
 #include <stdio.h>
 #include <stdlib.h>
 #include <string.h>
 
-/* Longer lines are not understood. */
+/* Longer lines are not understood, remarks apart. */
 #define LINE_LENGTH 200
+
+/* A hall, and what was asked of it. */
+struct run {
+    uint8_t hall[HALL_LENGTH];
+    uint32_t n, founders;
+    uint32_t actions[4 * HALL_MAX_ACTIONS]; /* the first of the actions given */
+    unsigned long given;                    /* how many were given */
+    uint8_t file[HALL_MAX_FILE];            /* room for the run file */
+};
 
 /* -- Words for a person -------------------------------------------------- */
 
@@ -183,7 +197,7 @@ static const char *place_state(uint32_t place, uint32_t confirm, uint32_t report
     return place < confirm ? "confirmed" : "not confirmed";
 }
 
-/* One line for each place of the order. 0, or the number of a refusal. */
+/* One line for each place of the order. HALL_OK, or the number of a refusal. */
 static uint32_t print_log(const uint8_t *hall, uint32_t r, uint32_t length)
 {
     if (length != 0) {
@@ -193,7 +207,7 @@ static uint32_t print_log(const uint8_t *hall, uint32_t r, uint32_t length)
         uint8_t page[HALL_ANSWER_LENGTH];
         char label[40];
         uint32_t number = hall_page(hall, HALL_LENGTH, r, place, page, sizeof page);
-        if (number != 0) {
+        if (number != HALL_OK) {
             return number;
         }
         snprintf(label, sizeof label, "%" PRIu32 ".%" PRIu32 ".%" PRIu32,
@@ -202,15 +216,15 @@ static uint32_t print_log(const uint8_t *hall, uint32_t r, uint32_t length)
         printf("  %5" PRIu32 "  %9s  %10" PRIu32 "  %s\n", place, label, hall_word(page, HALL_PAGE_VALUE),
                place_state(place, hall_word(page, HALL_PAGE_CONFIRM), hall_word(page, HALL_PAGE_REPORT)));
     }
-    return 0;
+    return HALL_OK;
 }
 
-/* The page of recorder r. 0, or the number of a refusal. */
+/* The page of recorder r. HALL_OK, or the number of a refusal. */
 static uint32_t print_page(const uint8_t *hall, uint32_t r)
 {
     uint8_t page[HALL_ANSWER_LENGTH];
     uint32_t number = hall_page(hall, HALL_LENGTH, r, 0, page, sizeof page);
-    if (number != 0) {
+    if (number != HALL_OK) {
         return number;
     }
     uint32_t length = hall_word(page, HALL_PAGE_ORDER_LENGTH);
@@ -228,10 +242,10 @@ static uint32_t print_page(const uint8_t *hall, uint32_t r)
 static int show_page(const uint8_t *hall, uint32_t r)
 {
     uint32_t number = print_page(hall, r);
-    if (number != 0) {
+    if (number != HALL_OK) {
         printf("page of recorder %" PRIu32 " refused (%" PRIu32 "): %s\n", r, number, reason(number, 0));
     }
-    return number == 0;
+    return number == HALL_OK;
 }
 
 /* -- Input --------------------------------------------------------------- */
@@ -265,76 +279,140 @@ static int take_numbers(const char *text, uint32_t *numbers, size_t count)
     return text[strspn(text, " \t")] == '\0';
 }
 
-/* Reads a line without its end. Returns 1; 0 at the end of the input; -1 for a
- * line that is too long, which is passed over. */
-static int read_line(char *line)
+/* A line of the input. */
+struct line {
+    char text[LINE_LENGTH]; /* without its end; the first bytes of one that is too long */
+    int too_long;
+    int has_zero; /* a zero byte is among its bytes */
+};
+
+/* Reads a line. Whether there was one: a line that a failed read cuts is none. */
+static int read_line(struct line *line)
 {
     size_t length = 0;
-    int too_long = 0;
     int c = getchar();
     if (c == EOF) {
         return 0;
     }
+    line->too_long = 0;
+    line->has_zero = 0;
     for (; c != EOF && c != '\n'; c = getchar()) {
+        if (c == '\0') {
+            line->has_zero = 1;
+        }
         if (length + 1 < LINE_LENGTH) {
-            line[length++] = (char)c;
+            line->text[length++] = (char)c;
         } else {
-            too_long = 1;
+            line->too_long = 1;
         }
     }
-    if (length != 0 && line[length - 1] == '\r') {
+    if (length != 0 && line->text[length - 1] == '\r') {
         length--;
     }
-    line[length] = '\0';
-    return too_long ? -1 : 1;
+    line->text[length] = '\0';
+    return !ferror(stdin);
 }
 
 /* Takes one action; says why if it is refused. */
-static void take_action(uint8_t *hall, const uint32_t *words, unsigned long at)
+static void take_action(struct run *run, const uint32_t *words, unsigned long at)
 {
     uint8_t answer[HALL_ANSWER_LENGTH];
     uint32_t number =
-        hall_step(hall, HALL_LENGTH, words[0], words[1], words[2], words[3], answer, sizeof answer);
-    if (number != 0) {
+        hall_step(run->hall, HALL_LENGTH, words[0], words[1], words[2], words[3], answer, sizeof answer);
+    if (number != HALL_OK) {
         printf("line %lu: %" PRIu32 " %" PRIu32 " %" PRIu32 " %" PRIu32 " refused (%" PRIu32 "): %s\n", at,
                words[0], words[1], words[2], words[3], number, reason(number, words[0]));
     }
+    if (run->given < HALL_MAX_ACTIONS) {
+        memcpy(run->actions + 4 * run->given, words, 4 * sizeof *words);
+    }
+    run->given++;
+}
+
+/* Whether a text is `page` and a recorder. */
+static int is_page(const char *text, uint32_t *recorder)
+{
+    return strncmp(text, "page", 4) == 0 && (text[4] == ' ' || text[4] == '\t') &&
+           take_numbers(text + 4, recorder, 1);
 }
 
 /* Does what a line asks for. Whether that went well; a refused action does. */
-static int take_line(uint8_t *hall, const char *line, unsigned long at)
+static int take_line(struct run *run, const struct line *line, unsigned long at)
 {
     uint32_t words[4];
-    line += strspn(line, " \t");
-    if (*line == '\0' || *line == '#') {
+    const char *text = line->text + strspn(line->text, " \t");
+    if (*text == '#') {
         return 1;
     }
-    if (strncmp(line, "page ", 5) == 0 && take_numbers(line + 5, words, 1)) {
-        return show_page(hall, words[0]);
+    if (line->too_long) {
+        printf("line %lu: too long\n", at);
+        return 0;
     }
-    if (take_numbers(line, words, 4)) {
-        take_action(hall, words, at);
-        return 1;
+    if (!line->has_zero) {
+        if (*text == '\0') {
+            return 1;
+        }
+        if (is_page(text, words)) {
+            return show_page(run->hall, words[0]);
+        }
+        if (take_numbers(text, words, 4)) {
+            take_action(run, words, at);
+            return 1;
+        }
     }
     printf("line %lu: not understood\n", at);
     return 0;
 }
 
 /* Takes all lines. Whether all went well. */
-static int take_lines(uint8_t *hall)
+static int take_lines(struct run *run)
 {
-    char line[LINE_LENGTH];
+    struct line line;
     int well = 1;
-    int got;
-    for (unsigned long at = 1; (got = read_line(line)) != 0; at++) {
-        if (got < 0) {
-            printf("line %lu: too long\n", at);
-            well = 0;
-        } else if (!take_line(hall, line, at)) {
+    for (unsigned long at = 1; read_line(&line); at++) {
+        if (!take_line(run, &line, at)) {
             well = 0;
         }
     }
+    if (ferror(stdin)) {
+        fputs("standard input cannot be read: its rest is not taken\n", stderr);
+        well = 0;
+    }
     return well;
+}
+
+/* -- The record ---------------------------------------------------------- */
+
+/* Writes bytes as a file. Whether that went well. */
+static int write_file(const char *path, const uint8_t *bytes, size_t length)
+{
+    FILE *to = fopen(path, "wb");
+    int well = to && fwrite(bytes, 1, length, to) == length;
+    if (to && fclose(to) != 0) {
+        well = 0;
+    }
+    if (!well) {
+        fprintf(stderr, "%s cannot be written: %s\n", path, strerror(errno));
+    }
+    return well;
+}
+
+/* Writes a run as a run file. Whether that went well. */
+static int write_record(struct run *run, const char *path)
+{
+    uint8_t words[HALL_ANSWER_LENGTH];
+    if (run->given > HALL_MAX_ACTIONS) {
+        fprintf(stderr, "%s is not written: %lu actions were given, and a run file has %d at most\n", path,
+                run->given, HALL_MAX_ACTIONS);
+        return 0;
+    }
+    uint32_t number = hall_run_write(run->file, sizeof run->file, run->n, run->founders, run->actions,
+                                     4 * run->given, words, sizeof words);
+    if (number != HALL_OK) {
+        fprintf(stderr, "%s is not written (%" PRIu32 "): %s\n", path, number, reason(number, 0));
+        return 0;
+    }
+    return write_file(path, run->file, hall_word(words, HALL_WRITTEN_LENGTH));
 }
 
 /* -- The program --------------------------------------------------------- */
@@ -348,31 +426,55 @@ static int take_founders(const char *text, uint32_t *founders)
     return take_numbers(text, founders, 1);
 }
 
+/* Opens the hall, takes the input and shows the page. Whether all went well. */
+static int perform(struct run *run, uint32_t recorder, const char *record)
+{
+    uint32_t number = hall_open(run->hall, HALL_LENGTH, run->n, run->founders);
+    if (number != HALL_OK) {
+        printf("opening refused (%" PRIu32 "): %s\n", number, reason(number, 0));
+        return 0;
+    }
+    int taken = take_lines(run);
+    int shown = show_page(run->hall, recorder);
+    int recorded = !record || write_record(run, record);
+    return taken && shown && recorded;
+}
+
+/* Whether all output was written. */
+static int end_output(void)
+{
+    if (fflush(stdout) == 0 && !ferror(stdout)) {
+        return 1;
+    }
+    fputs("standard output cannot be written\n", stderr);
+    return 0;
+}
+
 int main(int argc, char **argv)
 {
+    const char *record = NULL;
     uint32_t n, founders, recorder;
+    if (argc == 6 && strcmp(argv[1], "--record") == 0) {
+        record = argv[2];
+        argv += 2;
+        argc -= 2;
+    }
     if (argc != 4 || !take_numbers(argv[1], &n, 1) || !take_founders(argv[2], &founders) ||
         !take_numbers(argv[3], &recorder, 1)) {
-        fputs("usage: group_page N FOUNDERS RECORDER < ACTIONS\n"
-              "FOUNDERS is a mask with bit k - 1 for recorder k, or the word whole\n",
+        fputs("usage: group_page [--record FILE] N FOUNDERS RECORDER < ACTIONS\n"
+              "FOUNDERS is a mask with bit k - 1 for recorder k; 0 or the word whole is the whole hall\n",
               stderr);
         return 2;
     }
-    uint8_t *hall = malloc(HALL_LENGTH);
-    if (!hall) {
+    struct run *run = malloc(sizeof *run);
+    if (!run) {
         fputs("no memory\n", stderr);
         return 2;
     }
-    uint32_t number = hall_open(hall, HALL_LENGTH, n, founders);
-    if (number != 0) {
-        printf("opening refused (%" PRIu32 "): %s\n", number, reason(number, 0));
-        free(hall);
-        return 1;
-    }
-    int well = take_lines(hall);
-    if (!show_page(hall, recorder)) {
-        well = 0;
-    }
-    free(hall);
-    return well ? 0 : 1;
+    run->n = n;
+    run->founders = founders;
+    run->given = 0;
+    int well = perform(run, recorder, record);
+    free(run);
+    return end_output() && well ? 0 : 1;
 }

@@ -1,25 +1,36 @@
 /*
- * HL3 hall log: open a hall, perform an action, read a recorder's page.
+ * HL3 hall log: open a hall, perform an action, read a recorder's page; read
+ * and write run files.
  *
  * A hall is HALL_LENGTH bytes that the caller owns and lends to each call;
  * docs/stored-form.md describes them. The library keeps nothing between calls
- * and has no other memory, so a hall may be copied or stored as plain bytes,
- * and different halls may be used by different threads at the same time.
+ * and has no other memory, so a hall may be copied or stored as plain bytes.
  *
- * All three calls return 0, or the number of a refusal (enum hall_refusal). A
- * refused call leaves every lent byte as it was. Where several refusals fit,
- * the first in the order 11, 31, 12 to 16, 32 to 40, 18 is given.
+ * All calls return HALL_OK, which is 0, or the number of a refusal (enum
+ * hall_refusal). A refused call leaves every lent byte as it was. Where several
+ * refusals fit, the first in the order 11, 31, 12 to 16, 32 to 40, 18 is given;
+ * 19, of run files alone, comes before 16 in reading and after it in writing.
  *
  * A lent slice is a pointer and the number of bytes from there on.
  *  - It may be longer than needed: what lies past the first HALL_LENGTH bytes
  *    of a hall, or past the first HALL_ANSWER_LENGTH bytes of an answer or a
  *    page, is neither read nor written.
- *  - It needs no alignment.
+ *  - It needs no alignment, but for the words of hall_run_write.
  *  - Its pointer is not null, also where the length is 0.
  *  - The slices lent to one call do not overlap.
+ *
+ * Threads. Different halls are independent: different threads may use them at
+ * the same time. Of one hall, pages may be read by several threads at once, each
+ * into a slice of its own; while a thread opens or steps it no other thread uses
+ * it, so a caller that shares a hall locks it. The library itself never waits.
+ *
+ * Platform. The library is built for Linux on x86-64, with the System V calling
+ * convention. From outside it needs memcpy and memset alone. A step takes some
+ * 62,700 bytes of stack as built today, any other call less than 4,096: a thread
+ * that steps a hall has a stack of 96 KB or more.
  */
-#ifndef HALL_H
-#define HALL_H
+#ifndef HL3_HALL_LOG_HALL_H
+#define HL3_HALL_LOG_HALL_H
 
 #include <stddef.h>
 #include <stdint.h>
@@ -40,6 +51,17 @@ extern "C" {
 /* A hall has 1 to HALL_RECORDERS recorders, numbered from 1. A set of recorders
  * is a mask with bit k - 1 for recorder k. */
 #define HALL_RECORDERS 8
+
+/* What a hall holds at most. An action that would pass such a limit is refused
+ * with the number given. */
+#define HALL_MAX_ENTRIES 64      /* entries ever submitted: 32 */
+#define HALL_MAX_VIEWS 32        /* views ever formed, the founders' included: 32 */
+#define HALL_MAX_VIEW_NUMBER 255 /* the number of a view, from 1 on: 14 */
+#define HALL_MAX_SEQ 64          /* the sequence number of a label, from 1 on: 40 */
+#define HALL_MAX_BUFFER 64       /* labelled entries of a recorder not yet sent: 40 */
+#define HALL_MAX_ORDER 64        /* entries in the order of a recorder: 40 */
+#define HALL_MAX_PENDING 65      /* pending messages of a recorder in a view: 40 */
+#define HALL_MAX_QUEUE 72        /* messages in the queue of a view: 40 */
 
 /* Kinds of actions: word k of a step. Each uses the words named here; an unused
  * word is 0. R is the recorder, from 1 on. */
@@ -112,8 +134,10 @@ enum hall_phase {
     HALL_PHASE_COLLECT = 2
 };
 
-/* Refusals. */
+/* What a call returns: HALL_OK or a refusal. */
 enum hall_refusal {
+    HALL_OK = 0,
+
     /* Because of the input. */
     HALL_REFUSED_KIND = 11,        /* k is not 1 to 11 */
     HALL_REFUSED_RECORDER = 12,    /* r is not 1 to N where used, or not 0 where unused */
@@ -122,6 +146,7 @@ enum hall_refusal {
     HALL_REFUSED_SET = 15,         /* a new view's set is empty or names a recorder above N */
     HALL_REFUSED_OPENING = 16,     /* N is not 1 to 8, or founders above N */
     HALL_REFUSED_SHORT = 18,       /* the slice to write into is too short; given last */
+    HALL_REFUSED_FILE = 19,        /* the file breaks a rule of run files, or too many actions */
 
     /* Because of the state. */
     HALL_REFUSED_BYTES = 31,      /* the bytes are no hall's stored form, or too few */
@@ -144,7 +169,7 @@ enum hall_refusal {
  * the set `founders` as view 1; 0 means all recorders. What these bytes held
  * before does not matter.
  *
- * Returns 0; 16; or 18 if hall_len is below HALL_LENGTH.
+ * Returns HALL_OK; 16; or 18 if hall_len is below HALL_LENGTH.
  */
 uint32_t hall_open(uint8_t *hall, size_t hall_len, uint32_t n, uint32_t founders);
 
@@ -152,8 +177,8 @@ uint32_t hall_open(uint8_t *hall, size_t hall_len, uint32_t n, uint32_t founders
  * Performs the action k, r, a, b and writes its answer into the first
  * HALL_ANSWER_LENGTH bytes of `answer`.
  *
- * Returns 0; 11; 31, also if hall_len is below HALL_LENGTH; 12 to 15; 32 to
- * 40; or 18 if the action is allowed and answer_len is below
+ * Returns HALL_OK; 11; 31, also if hall_len is below HALL_LENGTH; 12 to 15; 32
+ * to 40; or 18 if the action is allowed and answer_len is below
  * HALL_ANSWER_LENGTH.
  */
 uint32_t hall_step(uint8_t *hall, size_t hall_len, uint32_t k, uint32_t r, uint32_t a, uint32_t b,
@@ -164,7 +189,7 @@ uint32_t hall_step(uint8_t *hall, size_t hall_len, uint32_t k, uint32_t r, uint3
  * `page`, with the label and value at a place of its order, counted from 1.
  * Place 0 asks for none.
  *
- * Returns 0; 31, also if hall_len is below HALL_LENGTH; 12; 38 for a place
+ * Returns HALL_OK; 31, also if hall_len is below HALL_LENGTH; 12; 38 for a place
  * outside the order; or 18 if page_len is below HALL_ANSWER_LENGTH.
  */
 uint32_t hall_page(const uint8_t *hall, size_t hall_len, uint32_t r, uint32_t place, uint8_t *page,
@@ -176,6 +201,85 @@ static inline uint32_t hall_word(const uint8_t *words, size_t i)
     const uint8_t *word = words + 4 * i;
     return (uint32_t)word[0] | (uint32_t)word[1] << 8 | (uint32_t)word[2] << 16 |
            (uint32_t)word[3] << 24;
+}
+
+/*
+ * Run files: an opening, and the actions of a run (docs/run-files.md).
+ *
+ * A run file is bytes that the caller owns and lends. The three calls keep to
+ * what is said of all calls above; an answer is again words in a slice of at
+ * least HALL_ANSWER_LENGTH bytes. An offset into a file is two words, the low
+ * one first, read by hall_offset.
+ */
+
+/* Bytes and actions of a run file, at most. */
+#define HALL_MAX_FILE 65536
+#define HALL_MAX_ACTIONS 4094
+
+/* Bytes of the opening block, of an action and of the trailer. A run of c
+ * actions has HALL_RUN_BLOCK * (c + 2) bytes. */
+#define HALL_RUN_BLOCK 16
+
+/* Words of the opening of a run file. */
+enum hall_run_word {
+    HALL_RUN_SIZE = 0,       /* N, the number of recorders */
+    HALL_RUN_FOUNDERS = 1,   /* the founders, 0 for all recorders */
+    HALL_RUN_START = 2,      /* offset of the first action */
+    HALL_RUN_START_HIGH = 3, /* its high word */
+    HALL_RUN_COUNT = 4       /* how many actions there are */
+};
+
+/* Words of an action of a run file. At the end all but the first are 0. */
+enum hall_action_word {
+    HALL_ACTION_END = 0, /* 0 for an action, 1 for the end */
+    HALL_ACTION_K = 1,   /* the words of a step */
+    HALL_ACTION_R = 2,
+    HALL_ACTION_A = 3,
+    HALL_ACTION_B = 4,
+    HALL_ACTION_NEXT = 5,     /* offset after the action */
+    HALL_ACTION_NEXT_HIGH = 6 /* its high word */
+};
+
+/* Words of a written run. */
+enum hall_written_word {
+    HALL_WRITTEN_LENGTH = 0 /* how many bytes it has */
+};
+
+/*
+ * Reads the opening of a run file.
+ *
+ * Returns HALL_OK; 19; 16; or 18 if words_len is below HALL_ANSWER_LENGTH.
+ */
+uint32_t hall_run_read(const uint8_t *file, size_t file_len, uint8_t *words, size_t words_len);
+
+/*
+ * Reads the action at an offset of a file, and the offset after it; or the
+ * end, where less than an action and the trailer is left. From HALL_RUN_START
+ * on, each time at HALL_ACTION_NEXT, the actions of a run come in turn. Any
+ * offset may be asked for, in any bytes.
+ *
+ * Returns HALL_OK; or 18 if words_len is below HALL_ANSWER_LENGTH.
+ */
+uint32_t hall_run_action(const uint8_t *file, size_t file_len, size_t at, uint8_t *words,
+                         size_t words_len);
+
+/*
+ * Writes a run of n recorders and the set `founders` at the start of `file`,
+ * bytes after it stay. `actions` is actions_len words (not bytes), aligned as
+ * uint32_t is: k, r, a, b of each action in turn. What is left of less than
+ * four words is no action. The words of an action may be any.
+ *
+ * Returns HALL_OK; 16; 19 for more than HALL_MAX_ACTIONS actions; or 18 if file_len
+ * is below the run's length or words_len below HALL_ANSWER_LENGTH.
+ */
+uint32_t hall_run_write(uint8_t *file, size_t file_len, uint32_t n, uint32_t founders,
+                        const uint32_t *actions, size_t actions_len, uint8_t *words,
+                        size_t words_len);
+
+/* The offset whose low word is word i. */
+static inline size_t hall_offset(const uint8_t *words, size_t i)
+{
+    return (size_t)((uint64_t)hall_word(words, i + 1) << 32 | hall_word(words, i));
 }
 
 #ifdef __cplusplus

@@ -1,7 +1,7 @@
 /*
  * Opens a hall, takes the steps of the bench card "the listing" and reads
- * pages, and checks every value that comes back. Then refused calls, each of
- * which must leave all lent bytes as they were.
+ * pages, and checks every value that comes back. Writes and reads run files.
+ * Then refused calls, each of which must leave all lent bytes as they were.
  *
  * Each lent slice is allocated by itself with just the length that is lent, so
  * that a memory checker sees any access outside it.
@@ -243,12 +243,149 @@ static void longer_slices(void)
     free(hall);
 }
 
+/* The run of docs/run-files.md: submit 700 and label, in a hall of one
+ * recorder. */
+static const uint32_t run_actions[] = {HALL_SUBMIT, 1, 700, 0, HALL_LABEL, 1, 0, 0};
+
+enum { RUN_LENGTH = 4 * HALL_RUN_BLOCK };
+
+/* Its bytes, in a slice of just their length. */
+static uint8_t *run_file(void)
+{
+    uint8_t *file = filled(RUN_LENGTH, 0xa5);
+    uint8_t *words = filled(HALL_ANSWER_LENGTH, 0xa5);
+    const uint32_t length[] = {RUN_LENGTH};
+
+    CHECK(hall_run_write(file, RUN_LENGTH, 1, 1, run_actions, 8, words, HALL_ANSWER_LENGTH) == 0);
+    CHECK(words_are(words, 0, length, 1));
+    free(words);
+    return file;
+}
+
+/* Whether the action at an offset has these words. */
+static int action_gives(const uint8_t *file, size_t at, const uint32_t *wanted, size_t count)
+{
+    uint8_t *words = filled(HALL_ANSWER_LENGTH + 3, 0xa5);
+    uint32_t number = hall_run_action(file, RUN_LENGTH, at, words, HALL_ANSWER_LENGTH + 3);
+    int ok = number == 0 && words_are(words, 3, wanted, count);
+    free(words);
+    return ok;
+}
+
+static void run_files(void)
+{
+    static const uint8_t bytes[RUN_LENGTH] = {
+        1,    0, 0, 0, 1, 0, 0, 0, 0,    0, 0, 0, 0, 0, 0, 0,
+        1,    0, 0, 0, 1, 0, 0, 0, 0xbc, 2, 0, 0, 0, 0, 0, 0,
+        2,    0, 0, 0, 1, 0, 0, 0, 0,    0, 0, 0, 0, 0, 0, 0,
+        0x40, 0, 0, 0, 2, 0, 0, 0, 0,    0, 0, 0, 0, 0, 0, 0};
+    const uint32_t opening[] = {1, 1, 16, 0, 2};
+    const uint32_t first[] = {0, HALL_SUBMIT, 1, 700, 0, 32, 0};
+    const uint32_t second[] = {0, HALL_LABEL, 1, 0, 0, 48, 0};
+    const uint32_t end[] = {1};
+    uint8_t *file = run_file();
+    uint8_t *hall = filled(HALL_LENGTH, 0);
+    uint8_t *words = filled(HALL_ANSWER_LENGTH, 0xa5);
+
+    CHECK(memcmp(file, bytes, RUN_LENGTH) == 0);
+    CHECK(hall_run_read(file, RUN_LENGTH, words, HALL_ANSWER_LENGTH) == 0);
+    CHECK(words_are(words, 0, opening, 5));
+    CHECK(action_gives(file, 16, first, 7));
+    CHECK(action_gives(file, 32, second, 7));
+    CHECK(action_gives(file, 48, end, 1));
+    CHECK(action_gives(file, RUN_LENGTH, end, 1));
+    CHECK(action_gives(file, SIZE_MAX, end, 1));
+
+    /* The run, taken action by action. */
+    CHECK(hall_open(hall, HALL_LENGTH, hall_word(words, HALL_RUN_SIZE), hall_word(words, HALL_RUN_FOUNDERS)) == 0);
+    size_t at = hall_offset(words, HALL_RUN_START);
+    uint32_t count = hall_word(words, HALL_RUN_COUNT);
+    uint32_t taken = 0;
+    while (hall_run_action(file, RUN_LENGTH, at, words, HALL_ANSWER_LENGTH) == 0 &&
+           hall_word(words, HALL_ACTION_END) == 0) {
+        if (step_is_done(hall, hall_word(words, HALL_ACTION_K), hall_word(words, HALL_ACTION_R),
+                         hall_word(words, HALL_ACTION_A))) {
+            taken++;
+        }
+        at = hall_offset(words, HALL_ACTION_NEXT);
+    }
+    CHECK(taken == count);
+    free(words);
+    free(hall);
+    free(file);
+}
+
+/* Refused run files: the order of refusals, and all bytes stay. */
+static void refused_run_files(void)
+{
+    const size_t many = 4 * (HALL_MAX_ACTIONS + 1);
+    const size_t most = HALL_ANSWER_LENGTH;
+    uint8_t *file = run_file();
+    uint8_t *before = run_file();
+    uint8_t *words = filled(most, 0xa5);
+    uint8_t *none = filled(0, 0);
+    uint32_t *actions = calloc(many, sizeof *actions);
+    if (!actions) {
+        puts("no memory");
+        exit(2);
+    }
+
+    CHECK(hall_run_read(none, 0, words, most) == HALL_REFUSED_FILE);
+    CHECK(hall_run_read(file, RUN_LENGTH - 1, none, 0) == HALL_REFUSED_FILE);
+    CHECK(hall_run_read(file, RUN_LENGTH, words, most - 1) == HALL_REFUSED_SHORT);
+    file[0] = before[0] = 9;
+    CHECK(hall_run_read(file, RUN_LENGTH, none, 0) == HALL_REFUSED_OPENING);
+    file[8] = before[8] = 1;
+    CHECK(hall_run_read(file, RUN_LENGTH, words, most) == HALL_REFUSED_FILE);
+    CHECK(hall_run_action(file, RUN_LENGTH, 16, words, most - 1) == HALL_REFUSED_SHORT);
+    CHECK(hall_run_action(none, 0, 0, none, 0) == HALL_REFUSED_SHORT);
+
+    CHECK(hall_run_write(file, RUN_LENGTH, 9, 0, actions, many, none, 0) == HALL_REFUSED_OPENING);
+    CHECK(hall_run_write(file, RUN_LENGTH, 8, 0, actions, many, none, 0) == HALL_REFUSED_FILE);
+    CHECK(hall_run_write(file, RUN_LENGTH, 8, 0, actions, 8, words, most - 1) == HALL_REFUSED_SHORT);
+    CHECK(hall_run_write(file, RUN_LENGTH - 1, 8, 0, actions, 8, words, most) == HALL_REFUSED_SHORT);
+    CHECK(hall_run_write(none, 0, 8, 0, actions, 0, words, most) == HALL_REFUSED_SHORT);
+    CHECK(holds_only(words, 0, most, 0xa5));
+    CHECK(memcmp(file, before, RUN_LENGTH) == 0);
+    free(actions);
+    free(none);
+    free(words);
+    free(before);
+    free(file);
+}
+
+/* The longest run, in a longer slice; three words more are no action. */
+static void longest_run(void)
+{
+    const size_t count = 4 * HALL_MAX_ACTIONS;
+    const uint32_t length[] = {HALL_MAX_FILE};
+    uint8_t *file = filled(HALL_MAX_FILE + 9, 0xa5);
+    uint8_t *words = filled(HALL_ANSWER_LENGTH, 0xa5);
+    uint32_t *actions = calloc(count + 3, sizeof *actions);
+    if (!actions) {
+        puts("no memory");
+        exit(2);
+    }
+
+    CHECK(hall_run_write(file, HALL_MAX_FILE + 9, 8, 0, actions, count + 3, words, HALL_ANSWER_LENGTH) == 0);
+    CHECK(words_are(words, 0, length, 1));
+    CHECK(holds_only(file, HALL_MAX_FILE, HALL_MAX_FILE + 9, 0xa5));
+    CHECK(hall_run_read(file, HALL_MAX_FILE, words, HALL_ANSWER_LENGTH) == 0);
+    CHECK(hall_word(words, HALL_RUN_COUNT) == HALL_MAX_ACTIONS);
+    free(actions);
+    free(words);
+    free(file);
+}
+
 int main(void)
 {
     listing_card();
     second_view();
     refused_calls();
     longer_slices();
+    run_files();
+    refused_run_files();
+    longest_run();
     printf("%u passed, %u failed\n", passed, failed);
     return failed != 0;
 }

@@ -9,6 +9,9 @@ pub enum Call {
     /// A step of a kind; 0 stands for every kind that is none.
     Step(u32),
     Page,
+    RunRead,
+    RunAction,
+    RunWrite,
 }
 
 impl fmt::Display for Call {
@@ -18,6 +21,9 @@ impl fmt::Display for Call {
             Call::Step(0) => write!(f, "no kind"),
             Call::Step(kind) => write!(f, "kind {kind}"),
             Call::Page => write!(f, "page"),
+            Call::RunRead => write!(f, "run read"),
+            Call::RunAction => write!(f, "run action"),
+            Call::RunWrite => write!(f, "run write"),
         }
     }
 }
@@ -33,6 +39,9 @@ pub struct Counts {
 
 /// The cases of an answer, as word 0 numbers them.
 const CASES: [&str; 4] = ["done", "entry", "summary", "from"];
+
+/// Those of an action of a run file.
+const RUN_CASES: [&str; 2] = ["action", "end"];
 
 /// The refusals of each kind by 01, without 18, which each kind has.
 const REFUSALS: [&[u32]; 12] = [
@@ -68,6 +77,13 @@ fn wanted_answers() -> Vec<(Call, u32, u32)> {
     }
     for number in [0, 31, 12, 38, 18] {
         wanted.push((Call::Page, number, 0));
+    }
+    for number in [0, 19, 16, 18] {
+        wanted.push((Call::RunRead, number, 0));
+        wanted.push((Call::RunWrite, number, 0));
+    }
+    for (number, case) in [(0, 0), (0, 1), (18, 0)] {
+        wanted.push((Call::RunAction, number, case));
     }
     for (kind, refusals) in REFUSALS.iter().enumerate() {
         let call = Call::Step(kind as u32);
@@ -121,6 +137,7 @@ impl Counts {
 fn name((call, number, case): (Call, u32, u32)) -> String {
     match (call, number) {
         (Call::Step(_), 0) => format!("{call}: {}", CASES[case as usize]),
+        (Call::RunAction, 0) => format!("{call}: {}", RUN_CASES[case as usize]),
         (_, 0) => format!("{call}: taken"),
         _ => format!("{call}: {number}"),
     }
@@ -137,7 +154,7 @@ impl fmt::Display for Counts {
             line.push_str(&format!("  {what} x {count}"));
         }
         for (call, line) in lines {
-            writeln!(f, "  {call:<8}{line}", call = call.to_string())?;
+            writeln!(f, "  {call:<10}{line}", call = call.to_string())?;
         }
         for (event, count) in &self.events {
             writeln!(f, "  {event}: {count}")?;

@@ -5,6 +5,7 @@ pub mod actions;
 pub mod counts;
 pub mod damage;
 pub mod events;
+pub mod files;
 pub mod halls;
 pub mod library;
 pub mod offsets;

@@ -1,5 +1,4 @@
-//! The library's three calls (include/hall.h), on slices that lie between
-//! guards.
+//! The library's calls (include/hall.h), on slices that lie between guards.
 
 extern "C" {
     fn hall_open(hall: *mut u8, hall_len: usize, n: u32, founders: u32) -> u32;
@@ -22,6 +21,27 @@ extern "C" {
         place: u32,
         page: *mut u8,
         page_len: usize,
+    ) -> u32;
+
+    fn hall_run_read(file: *const u8, file_len: usize, words: *mut u8, words_len: usize) -> u32;
+
+    fn hall_run_action(
+        file: *const u8,
+        file_len: usize,
+        at: usize,
+        words: *mut u8,
+        words_len: usize,
+    ) -> u32;
+
+    fn hall_run_write(
+        file: *mut u8,
+        file_len: usize,
+        n: u32,
+        founders: u32,
+        actions: *const u32,
+        actions_len: usize,
+        words: *mut u8,
+        words_len: usize,
     ) -> u32;
 }
 
@@ -104,6 +124,60 @@ pub fn page(hall: &mut Lent, r: u32, place: u32, page: &mut Lent) -> u32 {
             place,
             page.pointer(),
             page.length,
+        )
+    }
+}
+
+pub fn run_read(file: &mut Lent, words: &mut Lent) -> u32 {
+    // Safety: as for a page.
+    unsafe { hall_run_read(file.pointer(), file.length, words.pointer(), words.length) }
+}
+
+pub fn run_action(file: &mut Lent, at: usize, words: &mut Lent) -> u32 {
+    // Safety: as for a page. The offset may be any.
+    unsafe {
+        hall_run_action(
+            file.pointer(),
+            file.length,
+            at,
+            words.pointer(),
+            words.length,
+        )
+    }
+}
+
+/// The same on a file that is not copied between guards.
+pub fn run_action_of(file: &mut [u8], at: usize, words: &mut Lent) -> u32 {
+    // Safety: as for a page.
+    unsafe {
+        hall_run_action(
+            file.as_mut_ptr(),
+            file.len(),
+            at,
+            words.pointer(),
+            words.length,
+        )
+    }
+}
+
+pub fn run_write(
+    file: &mut Lent,
+    (n, founders): (u32, u32),
+    actions: &mut [u32],
+    words: &mut Lent,
+) -> u32 {
+    // Safety: as above, for three areas that do not overlap. The actions are
+    // lent as mutable memory for the same reason as a page's hall.
+    unsafe {
+        hall_run_write(
+            file.pointer(),
+            file.length,
+            n,
+            founders,
+            actions.as_mut_ptr(),
+            actions.len(),
+            words.pointer(),
+            words.length,
         )
     }
 }

@@ -10,7 +10,7 @@
 
 use compare::counts::Counts;
 use compare::pair::Difference;
-use compare::{damage, events, offsets, openings, runs, vectors};
+use compare::{damage, events, files, offsets, openings, runs, vectors};
 use std::env;
 use std::process::ExitCode;
 use std::sync::atomic::{AtomicU64, Ordering};
@@ -22,7 +22,7 @@ use std::time::Instant;
 type Test = fn(u64, &mut Counts) -> Result<(), Difference>;
 
 /// The tests, each with its number of seeds; 1 for those that use none.
-const TESTS: [(&str, Test, u64); 10] = [
+const TESTS: [(&str, Test, u64); 14] = [
     ("offsets by hand", offsets::by_hand, 1),
     ("vectors", vectors::all, 1),
     ("all openings", openings::all, 1),
@@ -33,6 +33,10 @@ const TESTS: [(&str, Test, u64); 10] = [
     ("damaged bytes", damage::some_values, 48),
     ("damaged records", damage::records, 100),
     ("lengths", damage::lengths, 100),
+    ("run files of vectors", files::vectors, 1),
+    ("damaged run files", files::damaged, 400),
+    ("written run files", files::written, 200),
+    ("offsets of 64 bits", files::high_words, 1),
 ];
 
 /// In place of "damaged bytes", on request.
@@ -135,6 +139,7 @@ fn report_counts(counts: &Counts) -> bool {
     println!("through the C interface:\n{counts}");
     let mut events = events::EVENTS.to_vec();
     events.extend([damage::STILL_A_HALL, damage::NO_HALL]);
+    events.extend(files::EVENTS);
     let missing = counts.missing(&events);
     for what in &missing {
         println!("  failed: never came: {what}");

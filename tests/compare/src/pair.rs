@@ -26,7 +26,7 @@ fn answer_before(at: usize) -> u8 {
 }
 
 /// A slice for an answer, and more bytes that are not lent.
-fn answer_slice(length: usize) -> Lent {
+pub fn answer_slice(length: usize) -> Lent {
     let area: Vec<u8> = (0..length + 8).map(answer_before).collect();
     Lent::new(&area, length)
 }
@@ -43,7 +43,7 @@ fn answer_after(length: usize, words: Option<&[u32; WORDS]>) -> Vec<u8> {
 }
 
 /// The words at the start of an answer's area.
-fn words_of(area: &[u8]) -> [u32; WORDS] {
+pub fn words_of(area: &[u8]) -> [u32; WORDS] {
     let mut words = [0; WORDS];
     for (word, bytes) in words.iter_mut().zip(area.chunks_exact(4)) {
         *word = u32::from_le_bytes([bytes[0], bytes[1], bytes[2], bytes[3]]);
@@ -63,7 +63,7 @@ pub fn random_room(random: &mut Random) -> usize {
 }
 
 /// The first place where two slices differ.
-fn first_difference(is: &[u8], wanted: &[u8]) -> String {
+pub fn first_difference(is: &[u8], wanted: &[u8]) -> String {
     match is.iter().zip(wanted).position(|(a, b)| a != b) {
         Some(at) => format!("byte {at} is {}, must be {}", is[at], wanted[at]),
         None => "the lengths differ".to_string(),

@@ -9,7 +9,8 @@ use reference::stored::LENGTH;
 use std::fs;
 use std::path::{Path, PathBuf};
 
-fn run_files() -> Vec<PathBuf> {
+/// The run files of tests/vectors.
+pub fn run_files() -> Vec<PathBuf> {
     let folder = Path::new(env!("CARGO_MANIFEST_DIR")).join("../vectors");
     let files = fs::read_dir(folder).expect("tests/vectors can be read");
     let paths = files.map(|file| file.expect("a file").path());

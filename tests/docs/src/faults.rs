@@ -144,13 +144,13 @@ const LISTED: [(&str, &str, &str); 3] = [
 const DRAWN: [(&str, &str, &str, &str); 3] = [
     (
         "a wrong edge",
-        " client: messages",
+        " client: hall",
         " client: page",
         "client stands on",
     ),
     (
         "a crate left out",
-        " client: messages",
+        " client: hall",
         " ",
         "client is missing",
     ),

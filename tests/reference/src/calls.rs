@@ -1,16 +1,17 @@
-//! The three calls on lent bytes, as a C program makes them: a number, which is
-//! 0 or a refusal, and the answer as words in a lent slice. A refused call
-//! leaves both slices as they are.
+//! The calls on lent bytes, as a C program makes them: a number, which is 0 or a
+//! refusal, and the answer as words in a lent slice. A refused call leaves all
+//! slices as they are.
 
 use crate::actions::{judge_kind, Answer};
 use crate::hall::{open as open_hall, Hall};
 use crate::page::Page;
 use crate::refusal;
+use crate::runfile::{action_at, read_run_file, write_run_file, BLOCK};
 use crate::stored;
 
-/// Bytes of an answer or a page.
+/// Bytes of an answer, such as a page.
 pub const ANSWER_LENGTH: usize = 64;
-/// Words of an answer or a page, of 32 bits, little-endian.
+/// Words of an answer, of 32 bits, little-endian.
 pub const WORDS: usize = ANSWER_LENGTH / 4;
 
 /// The first words, followed by zeros.
@@ -65,7 +66,7 @@ impl Page {
     }
 }
 
-/// Whether an answer or a page fits into a slice.
+/// Whether an answer fits into a slice.
 fn has_room(slice: &[u8]) -> bool {
     slice.len() >= ANSWER_LENGTH
 }
@@ -146,4 +147,65 @@ fn try_page(bytes: &[u8], r: u32, place: u32, page: &mut [u8]) -> Result<(), u32
 /// The page of a recorder of the hall in a slice; 31, 12, 38, 18.
 pub fn page(bytes: &[u8], r: u32, place: u32, page: &mut [u8]) -> u32 {
     number(try_page(bytes, r, place, page))
+}
+
+/// Puts the words of a call that is not refused for another reason.
+fn answer(slice: &mut [u8], words: [u32; WORDS]) -> Result<(), u32> {
+    if !has_room(slice) {
+        return Err(refusal::SHORT_SLICE);
+    }
+    put_words(slice, words);
+    Ok(())
+}
+
+/// The two words of an offset, low first.
+fn offset_words(at: usize) -> [u32; 2] {
+    let at = at as u64;
+    [at as u32, (at >> 32) as u32]
+}
+
+fn try_run_read(file: &[u8], slice: &mut [u8]) -> Result<(), u32> {
+    let (n, founders, actions) = read_run_file(file)?;
+    let [low, high] = offset_words(file.len() - BLOCK * (actions.len() + 1));
+    answer(slice, words([n, founders, low, high, actions.len() as u32]))
+}
+
+/// Reads the opening of a run file; 19, 16, 18.
+pub fn run_read(file: &[u8], words: &mut [u8]) -> u32 {
+    number(try_run_read(file, words))
+}
+
+fn try_run_action(file: &[u8], at: usize, slice: &mut [u8]) -> Result<(), u32> {
+    let Some(([k, r, a, b], next)) = action_at(file, at) else {
+        return answer(slice, words([1]));
+    };
+    let [low, high] = offset_words(next);
+    answer(slice, words([0, k, r, a, b, low, high]))
+}
+
+/// Reads the action at an offset of a file, or the end; 18.
+pub fn run_action(file: &[u8], at: usize, words: &mut [u8]) -> u32 {
+    number(try_run_action(file, at, words))
+}
+
+fn try_run_write(
+    file: &mut [u8],
+    (n, founders): (u32, u32),
+    actions: &[u32],
+    slice: &mut [u8],
+) -> Result<(), u32> {
+    let actions: Vec<[u32; 4]> = actions
+        .chunks_exact(4)
+        .map(|action| [action[0], action[1], action[2], action[3]])
+        .collect();
+    let mut written = file.to_vec();
+    let length = write_run_file(n, founders, &actions, &mut written)?;
+    answer(slice, words([length as u32]))?;
+    file.copy_from_slice(&written);
+    Ok(())
+}
+
+/// Writes a run, four words an action, at a slice's start; 16, 19, 18.
+pub fn run_write(file: &mut [u8], opening: (u32, u32), actions: &[u32], words: &mut [u8]) -> u32 {
+    number(try_run_write(file, opening, actions, words))
 }

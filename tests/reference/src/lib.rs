@@ -12,7 +12,7 @@
 //! - `page`: the page of a recorder.
 //! - `check`: whether all fields are in range.
 //! - `stored`: the stored form, read and written.
-//! - `calls`: open, step and page on lent bytes.
+//! - `calls`: open, step, page and run files on lent bytes.
 //! - `runfile` and `listing`: run files and the listing of a replay.
 //! - `refusal`: the numbers of the refusals.
 

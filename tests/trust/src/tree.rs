@@ -12,7 +12,7 @@ use std::path::{Path, PathBuf};
 use std::rc::Rc;
 
 /// Where the toolchain's libraries stand.
-const LIBRARIES: [&str; 5] = ["Prim", "mathlib", "lib", "native", "borrow"];
+const LIBRARIES: [&str; 6] = ["Prim", "mathlib", "lib", "native", "borrow", "denote"];
 
 /// Names of the language itself, which no line imports.
 const BUILT_IN: [&str; 7] = ["Type", "Unit", "tt", "⊥", "absurd", "×", "now"];

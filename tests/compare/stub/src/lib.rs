@@ -1,5 +1,5 @@
-//! The three calls of `include/hall.h` over the second implementation, right or
-//! with one of the mistakes below, which HALL_FAULT names.
+//! The calls of `include/hall.h` over the second implementation, right or with
+//! one of the mistakes below, which HALL_FAULT names.
 
 use reference::actions::judge_kind;
 use reference::calls::{self, ANSWER_LENGTH};
@@ -112,6 +112,87 @@ pub unsafe extern "C" fn hall_page(
     let number = calls::page(hall, r, place, page);
     if faulty("the page says primary without a view") && number == 0 && page[..4] == [0; 4] {
         page[12] = 1;
+    }
+    number
+}
+
+/// # Safety
+/// As in `include/hall.h`.
+#[no_mangle]
+pub unsafe extern "C" fn hall_run_read(
+    file: *const u8,
+    file_len: usize,
+    words: *mut u8,
+    words_len: usize,
+) -> u32 {
+    let file = from_raw_parts(file, file_len);
+    let words = from_raw_parts_mut(words, words_len);
+    if faulty("18 before 19") && words.len() < ANSWER_LENGTH {
+        return 18;
+    }
+    let number = calls::run_read(file, words);
+    if faulty("the first byte of the run as its start") && number == 0 {
+        words[8] -= 16;
+    }
+    if faulty("16 before 19") && number == 19 && file.len() >= 32 && file[file.len() - 32] > 8 {
+        return 16;
+    }
+    number
+}
+
+/// # Safety
+/// As in `include/hall.h`.
+#[no_mangle]
+pub unsafe extern "C" fn hall_run_action(
+    file: *const u8,
+    file_len: usize,
+    at: usize,
+    words: *mut u8,
+    words_len: usize,
+) -> u32 {
+    let file = from_raw_parts(file, file_len);
+    let words = from_raw_parts_mut(words, words_len);
+    if faulty("an offset that wraps") && at > usize::MAX - 16 && words.len() >= ANSWER_LENGTH {
+        return calls::run_action(file, 0, words);
+    }
+    if faulty("the trailer as an action") && words.len() >= ANSWER_LENGTH {
+        let longer = [file, &[0; 16]].concat();
+        return calls::run_action(&longer, at, words);
+    }
+    let number = calls::run_action(file, at, words);
+    if faulty("the high word dropped") && number == 0 {
+        words[24..28].fill(0);
+    }
+    number
+}
+
+/// # Safety
+/// As in `include/hall.h`.
+#[no_mangle]
+pub unsafe extern "C" fn hall_run_write(
+    file: *mut u8,
+    file_len: usize,
+    n: u32,
+    founders: u32,
+    actions: *const u32,
+    actions_len: usize,
+    words: *mut u8,
+    words_len: usize,
+) -> u32 {
+    let file = from_raw_parts_mut(file, file_len);
+    let actions = from_raw_parts(actions, actions_len);
+    let words = from_raw_parts_mut(words, words_len);
+    if faulty("written without room for the answer") && words.len() < ANSWER_LENGTH {
+        let mut room = [0; ANSWER_LENGTH];
+        let number = calls::run_write(file, (n, founders), actions, &mut room);
+        return if number == 0 { 18 } else { number };
+    }
+    if faulty("19 before 16") && actions.len() / 4 > 4_094 {
+        return 19;
+    }
+    let number = calls::run_write(file, (n, founders), actions, words);
+    if faulty("the rest of the file cleared") && number == 0 {
+        file[32 + 16 * (actions.len() / 4)..].fill(0);
     }
     number
 }
