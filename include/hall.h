@@ -25,9 +25,9 @@
  * it, so a caller that shares a hall locks it. The library itself never waits.
  *
  * Platform. The library is built for Linux on x86-64, with the System V calling
- * convention. From outside it needs memcpy and memset alone. A step takes some
- * 62,700 bytes of stack as built today, any other call less than 4,096: a thread
- * that steps a hall has a stack of 96 KB or more.
+ * convention. From outside it needs memcpy and memset alone. A call takes at most
+ * HALL_STACK bytes of stack, beside what the thread itself needs; any call but a
+ * step takes less than 4,096.
  */
 #ifndef HL3_HALL_LOG_HALL_H
 #define HL3_HALL_LOG_HALL_H
@@ -41,6 +41,10 @@ extern "C" {
 
 /* Bytes of a hall. */
 #define HALL_LENGTH 59699
+
+/* Bytes of stack that suffice for any call: most steps take some 63,000, the
+ * last summary of an exchange takes more for each entry still to be ordered. */
+#define HALL_STACK 98304
 
 /* Bytes of an answer or a page: HALL_WORDS words of 32 bits, little-endian,
  * each read by hall_word. Words that are not described are 0; they are spare

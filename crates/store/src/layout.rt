@@ -83,7 +83,7 @@ pub const SUMMARY_HIGH: usize = SUMMARY_CONFIRM + 1;
 
 pub const SUMMARY: usize = SUMMARY_HIGH + NUMBER;
 
-// An endpoint for a summary: sent or not, and the summary.
+// A place for a summary: sent or not, and the summary.
 pub const SENT: usize = 1 + SUMMARY;
 
 // A recorder's endpoint in a view: pending, receive mark, safe mark, sent, summary.
