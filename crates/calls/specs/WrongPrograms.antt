@@ -17,7 +17,7 @@ use Rattle.store.specs.Layout.{storedLength}
 use Rattle.store.specs.StoredForm.{hallOf, isStored}
 use Rattle.calls.specs.Calls.{Outcome, stepOn, openOn, pageOn, runOn}
 
--- anything that answers steps on lent bytes, and shows pages of them by recorder and endpoint
+-- anything that answers steps on lent bytes, and shows pages of them by recorder and place
 pub record Program : Type 0 where
   pub step : List ℕ → Words → Outcome
   pub page : List ℕ → ℕ → ℕ → PageAnswer

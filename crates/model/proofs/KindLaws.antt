@@ -1,4 +1,4 @@
--- A number and the kind that it names: what is computed of each number of the list of kinds holds of each number, and past
+-- A number and the kind that it names: what is computed of each element of the list of kinds holds of each number, and past
 -- the last kind there is none. Assumes nothing.
 use Prim.Native.Nat.{ℕ, zero, suc, _+_, _-_, _≤_, _<_}
 use native.Mathlib.Omega.{arith}
