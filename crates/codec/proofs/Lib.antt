@@ -9,5 +9,6 @@ pub mod BytesLaws
 pub mod CellsLaws
 pub mod Piece
 pub mod SliceLaws
+pub mod Narrow
 pub mod EndsLaws
 pub mod FlagsLaws
