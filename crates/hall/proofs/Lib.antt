@@ -1,5 +1,7 @@
 pub mod Keys
 pub mod ReadsLaws
+pub mod Fields
+pub mod NarrowLaws
 pub mod Writes
 pub mod Changing
 pub mod ActsLaws

@@ -1,3 +1,4 @@
 pub mod Acts
 pub mod Parts
 pub mod AtRecorder
+pub mod Narrow
