@@ -38,7 +38,7 @@ write-list b o cap n xs e = subst (λ (m : ℕ). sets (sets (set b o m) (o + 1) 
         ∙ sym (sets-append (set b o c) (o + 1) xs (zeros (cap - c)))
         ∙ ap (λ (j : ℕ). sets (set b o c) j (xs ++ zeros (cap - c))) (add-one o)
 
--- a loop over the bytes from i up to t: it ends, or goes by the next byte
+-- a loop over the bytes from i up to t: it ends, or tests the next byte
 module _ (lo hi i t : ℕ) (b : List ℕ) where
   pub allIn-none : t ≤ i → allIn lo hi (part i (t - i) b) ≡ true
   unfolding allIn
@@ -46,19 +46,9 @@ module _ (lo hi i t : ℕ) (b : List ℕ) where
       let n : t - i ≡ 0 = omega arith in
       ap (λ (j : ℕ). allIn lo hi (part i j b)) n
 
-  module _ (h : i < t) (k : t ≤ length b) where
-    next : allIn lo hi (part i (t - i) b) ≡ between lo hi (getD b i 0) && allIn lo hi (part (i + 1) (t - (i + 1)) b)
-    unfolding allIn
-    next = ap (allIn lo hi) (part-rest i t b h k)
-
-    pub allIn-below : getD b i 0 < lo → allIn lo hi (part i (t - i) b) ≡ false
-    allIn-below l = next ∙ rw (lt-leb lo (getD b i 0) l)
-
-    pub allIn-above : lo ≤ getD b i 0 → hi < getD b i 0 → allIn lo hi (part i (t - i) b) ≡ false
-    allIn-above g l = next ∙ rw (le-leb lo (getD b i 0) g, lt-leb (getD b i 0) hi l)
-
-    pub allIn-next : lo ≤ getD b i 0 → getD b i 0 ≤ hi → allIn lo hi (part i (t - i) b) ≡ allIn lo hi (part (i + 1) (t - (i + 1)) b)
-    allIn-next g l = next ∙ rw (le-leb lo (getD b i 0) g, le-leb (getD b i 0) hi l)
+  pub allIn-next : i < t → t ≤ length b → allIn lo hi (part i (t - i) b) ≡ between lo hi (getD b i 0) && allIn lo hi (part (i + 1) (t - (i + 1)) b)
+  unfolding allIn
+  allIn-next h k = ap (allIn lo hi) (part-rest i t b h k)
 
 -- what the code writes, reads and tests is the form of a bounded list of bytes
 module _ (lo hi : ℕ) where

@@ -12,3 +12,4 @@ pub mod SliceLaws
 pub mod Narrow
 pub mod EndsLaws
 pub mod FlagsLaws
+pub mod Gathering

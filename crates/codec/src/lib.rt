@@ -6,13 +6,14 @@ ghost use mathlib.Core.Path.{_≡_};
 ghost use mathlib.Core.Bool.{true, _&&_, _||_};
 ghost use mathlib.Core.List.{[], _∷_, _++_};
 ghost use Prim.Native.Nat.{_+_, _-_, _≤_, _<_};
+ghost use lib.Dec.{eqb};
 ghost use lib.ListN.{length, getD, take, drop};
 ghost use lib.Seq.{sets};
 ghost use Rattle.base.specs.Lists.{bit, has, countOf, nth};
 ghost use Rattle.base.specs.Numbers.{upTo};
 ghost use Rattle.base.specs.Update.{upd};
 ghost use Rattle.codec.specs.Bytes.{part, zeros, allZero};
-ghost use Rattle.codec.specs.Number.{digits, value, byte};
+ghost use Rattle.codec.specs.Number.{digits, value, byte, between};
 ghost use Rattle.codec.specs.Bounded.{bounded};
 ghost use Rattle.codec.specs.ByteList.{items, listAt, listBytes, allIn, listCapacity};
 ghost use Rattle.codec.specs.Ends.{firstOf, foundOf};
@@ -122,23 +123,28 @@ pub fn put_bytes(b: &mut [u8], at: usize, s: &[u8], n: usize)
     }
 }
 
+// 0 for a byte in lo .. hi, else 1.
+fn outside(x: u8, lo: u8, hi: u8) -> u8
+    ensures { λ r. ⌜ eqb r 0 ≡ between lo hi x ⌝ }
+{
+    if x < lo {
+        return 1;
+    }
+    if hi < x { 1 } else { 0 }
+}
+
 // Are the bytes from an offset up to another all in lo .. hi?
 pub fn all_in(b: &[u8], from: usize, to: usize, lo: u8, hi: u8) -> bool
     requires { ⌜ (from ≤ to) × (to ≤ length (now b)) ⌝ }
     ensures { λ r. ⌜ r ≡ allIn lo hi (part from (to - from) (now (b .entry))) ⌝ }
 {
+    let mut any: u8 = 0;
     let mut i = from;
     while i < to {
-        let x = b[i];
-        if x < lo {
-            return false;
-        }
-        if hi < x {
-            return false;
-        }
+        any = any | outside(b[i], lo, hi);
         i += 1;
     }
-    true
+    any == 0
 }
 
 // A list of at most 72 bytes: the first `len` of `places`. Where it is stored it has a capacity of its own,

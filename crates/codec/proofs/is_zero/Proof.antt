@@ -3,34 +3,15 @@ use borrow.Author.Needs.{needs}
 use denote.Ref.{now}
 use Prim.Native.Nat.{ℕ, _-_, _≤_}
 use native.Mathlib.Omega.{arith}
-use mathlib.Core.Path.{_≡_, refl, ap, sym, _∙_}
-use mathlib.Core.Bool.{Bool, true, false, _&&_}
+use mathlib.Core.Path.{_≡_, ap, sym, _∙_}
+use mathlib.Core.Bool.{Bool, _&&_}
 use lib.Dec.{eqb}
 use lib.ListN.{getD}
-use lib.Bits.{bitOr, or-add-and, and-le-l, and-le-r}
-use borrow.Author.Tests.{eqb-true, eqb-false, eq-eqb, ne-eqb}
 use Rattle.codec.specs.Bytes.{part, allZero}
 use Rattle.codec.proofs.BytesLaws.{allZero-step}
+use Rattle.codec.proofs.Gathering.{or-zero}
 use Rattle.codec.proofs.is_zero.Statement.{statement}
 use Rattle.codec.proofs.is_zero.Tie as tie
-
--- the or of two numbers is 0 just where both are
-or-zero : (a b : ℕ) → eqb (bitOr a b) 0 ≡ eqb a 0 && eqb b 0
-or-zero a b = go (eqb a 0) (eqb b 0) refl refl
-  where
-    both : a ≡ 0 → b ≡ 0 → bitOr a b ≡ 0
-    both p q = omega (arith, or-add-and a b)
-
-    left : bitOr a b ≡ 0 → a ≡ 0
-    left e = omega (arith, or-add-and a b, and-le-r a b)
-
-    right : bitOr a b ≡ 0 → b ≡ 0
-    right e = omega (arith, or-add-and a b, and-le-l a b)
-
-    go : (s t : Bool) → eqb a 0 ≡ s → eqb b 0 ≡ t → eqb (bitOr a b) 0 ≡ s && t
-    go true true p q = eq-eqb (bitOr a b) 0 (both (eqb-true a 0 p) (eqb-true b 0 q))
-    go true false p q = ne-eqb (bitOr a b) 0 (λ e. eqb-false b 0 q (right e))
-    go false t p q = ne-eqb (bitOr a b) 0 (λ e. eqb-false a 0 p (left e))
 
 abbrev Inv-loop : tie.InvT-loop
 Inv-loop b from to any₀ i₀ any i = (from ≤ i) × (i ≤ to) × (eqb any 0 ≡ allZero (part from (i - from) b))
