@@ -46,12 +46,15 @@ module _ (p : ℕ → Bool) where
   unfolding all upTo
   all-none = refl
 
-  pub all-next : (j : ℕ) → all p (upTo j) ≡ true → p (j + 1) ≡ true → all p (upTo (j + 1)) ≡ true
+  pub all-step : (j : ℕ) → all p (upTo (j + 1)) ≡ all p (upTo j) && p (j + 1)
   unfolding all upTo
-  all-next j a h =
+  all-step j =
       ap (λ (i : ℕ). all p (upTo i)) (add-one j)
       ∙ all-append (upTo j) (suc j ∷ [])
-      ∙ ap₂ _&&_ a (and-true (p (suc j)) ∙ ap p (sym (add-one j)) ∙ h)
+      ∙ ap (λ (t : Bool). all p (upTo j) && t) (and-true (p (suc j)) ∙ ap p (sym (add-one j)))
+
+  pub all-next : (j : ℕ) → all p (upTo j) ≡ true → p (j + 1) ≡ true → all p (upTo (j + 1)) ≡ true
+  all-next j a h = all-step j ∙ ap₂ _&&_ a h
 
   pub all-fail : (m j : ℕ) → j < m → p (j + 1) ≡ false → all p (upTo m) ≡ false
   all-fail m j l h =

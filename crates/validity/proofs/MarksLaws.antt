@@ -18,7 +18,7 @@ use Rattle.codec.specs.Form.{mapped}
 use Rattle.codec.specs.Number.{value, number, flag}
 use Rattle.codec.specs.Cells.{decodeAll, cells}
 use Rattle.codec.specs.Table.{lookup, table, flags}
-use Rattle.validity.specs.Marks.{marked, messageMarked, flagAt}
+use Rattle.validity.specs.Marks.{marked, messageMarked, flagAt, setOk}
 
 module _ (l : List ℕ) (x : ℕ) where
   pub marked-low : x < 1 → marked l x ≡ false
@@ -51,6 +51,14 @@ flag-off x t e = rw (ne-eqb 1 x e)
 -- nothing where it is not set: the test alone says so
 pub unset : (x : ℕ) (t : Bool) → (1 ≡ x → ⊥) → not (eqb 1 x) ≡ (not (eqb 1 x) || t)
 unset x t e = rw (ne-eqb 1 x e)
+
+-- the flag at j and its entry's label
+pub set-at : (l b : List ℕ) (o j : ℕ) → j < maxEntries → setOk l b o (j + 1) ≡ (not (eqb 1 (getD b (o + j) 0)) || not (eqb (getD l j 0) 0))
+unfolding setOk
+set-at l b o j h =
+    let e : j + 1 - 1 ≡ j = omega arith in
+    ap₂ (λ (s t : Bool). not s || t) (ap (λ (i : ℕ). eqb 1 (getD b (o + i) 0)) e)
+    (marked-in l (j + 1) (omega arith) (omega arith) ∙ ap (λ (i : ℕ). not (eqb (getD l i 0) 0)) e)
 
 -- flags, as the form has them
 lookup-number : {A : Type 0} (s n : ℕ) (xs : List A) (d : A) (j : ℕ) → s ≤ j → j < s + n → n ≤ length xs → lookup (numbers s n) d xs j ≡ getD xs (j - s) d

@@ -1,7 +1,7 @@
 // Is a byte slice the stored form of a hall? Each field in its range (crate ranges), and the cross rules. The tests are
 // gathered by `&`: all are made, with no branch.
 ghost use mathlib.Core.Path.{_≡_};
-ghost use mathlib.Core.Bool.{_&&_, _||_};
+ghost use mathlib.Core.Bool.{not, _&&_, _||_};
 ghost use Prim.Native.Nat.{_+_, _-_, _*_, _≤_, _<_};
 ghost use lib.Dec.{eqb};
 ghost use lib.ListN.{length};
@@ -57,12 +57,11 @@ fn names_all(b: &[u8], at: usize, labels: &[u8; limits::MAX_ENTRIES], sent: bool
     true
 }
 
-// If entry e is in the set of flags at an offset, is it labelled?
-fn labelled_if_set(b: &[u8], at: usize, labels: &[u8; limits::MAX_ENTRIES], e: usize) -> bool
-    requires { ⌜ (1 ≤ e) × (e ≤ maxEntries) × (at + maxEntries ≤ length (now b)) ⌝ }
-    ensures { λ r. ⌜ r ≡ setOk (now (labels .entry)) (now (b .entry)) at e ⌝ }
+// 1 if a flag is set and its entry is not labelled, else 0.
+fn lacks(flag: u8, labelled: bool) -> u8
+    ensures { λ r. ⌜ eqb r 0 ≡ (not (eqb 1 flag) || labelled) ⌝ }
 {
-    1 != b[at + (e - 1)] || is_marked(labels, e as u8)
+    codec::flag_byte((1 == flag) & !labelled)
 }
 
 // Are the entries of the set of flags at an offset labelled?
@@ -70,14 +69,13 @@ fn names_set(b: &[u8], at: usize, labels: &[u8; limits::MAX_ENTRIES]) -> bool
     requires { ⌜ at + maxEntries ≤ length (now b) ⌝ }
     ensures { λ r. ⌜ r ≡ all (setOk (now (labels .entry)) (now (b .entry)) at) (upTo maxEntries) ⌝ }
 {
+    let mut any: u8 = 0;
     let mut j = 0;
     while j < limits::MAX_ENTRIES {
-        if !labelled_if_set(b, at, labels, j + 1) {
-            return false;
-        }
+        any = any | lacks(b[at + j], labels[j] != 0);
         j += 1;
     }
-    true
+    any == 0
 }
 
 // Is k, of recorders 1 to n, in a set?

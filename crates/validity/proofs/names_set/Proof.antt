@@ -1,39 +1,43 @@
--- The invariant: the numbers passed have it. Assumes nothing.
+-- The invariant: `any` is 0 just where the numbers passed have it. Assumes nothing.
 use borrow.Author.Needs.{needs}
 use denote.Ref.{now}
-use Prim.Native.Nat.{_-_, _≤_}
-use mathlib.Core.Path.{_≡_, sym, _∙_}
-use mathlib.Core.Bool.{true}
-use borrow.Author.Tests.{not-true, not-false}
+use Prim.Native.Nat.{ℕ, _-_, _≤_}
+use native.Mathlib.Omega.{arith}
+use mathlib.Core.Path.{_≡_, sym, ap, ap₂, _∙_}
+use mathlib.Core.Bool.{_&&_}
+use lib.Dec.{eqb}
 use Rattle.base.specs.Numbers.{upTo}
 use Rattle.base.specs.Lists.{all}
 use Rattle.model.specs.Hall.{maxEntries}
+use Rattle.codec.proofs.Gathering.{or-zero}
 use Rattle.validity.specs.Marks.{setOk}
-use Rattle.validity.proofs.AllsLaws.{all-none, all-next, all-fail, all-done}
+use Rattle.validity.proofs.AllsLaws.{all-none, all-step}
+use Rattle.validity.proofs.MarksLaws.{set-at}
 use Rattle.validity.proofs.names_set.Statement.{statement}
 use Rattle.validity.proofs.names_set.Tie as tie
 
 abbrev Inv-loop : tie.InvT-loop
-Inv-loop b at labels j₀ j = (j ≤ maxEntries) × (all (setOk labels b at) (upTo j) ≡ true)
+Inv-loop b at labels any₀ j₀ any j = (j ≤ maxEntries) × (eqb any 0 ≡ all (setOk labels b at) (upTo j))
 
 abbrev μ-loop : tie.MeasureT-loop
-μ-loop b at labels j₀ j = maxEntries - j
+μ-loop b at labels any₀ j₀ any j = maxEntries - j
 
 loop-holds : tie.Need-loop-holds Inv-loop μ-loop
 loop-holds c =
     let a = c .before .args in
-    (search needs, all-none (setOk (now (a .labels)) (now (a .b)) (a .at)))
+    (search needs, sym (all-none (setOk (now (a .labels)) (now (a .b)) (a .at))))
 
-add-labelled-if-set : tie.Need-add-labelled-if-set Inv-loop μ-loop
-add-labelled-if-set c = search needs
+add-lacks : tie.Need-add-lacks Inv-loop μ-loop
+add-lacks c = search needs
 
-labelled-if-set-requires : tie.Need-labelled-if-set-requires Inv-loop μ-loop
-labelled-if-set-requires c κs = search needs
+shared-slice-read-lacks : tie.Need-shared-slice-read-lacks Inv-loop μ-loop
+shared-slice-read-lacks c = search needs
 
-returns : tie.Need-returns Inv-loop μ-loop
-returns c =
-    let a = c .before .before .before .before .before .args in
-    sym (all-fail (setOk (now (a .labels)) (now (a .b)) (a .at)) maxEntries (c .before .before .before .loop .j) (c .before .before .loop-test .taken) (sym (c .before .labelled-if-set .ensures) ∙ not-true (c .before .labelled-if-set .result) (c .if1 .taken)))
+element-copy-out-lacks : tie.Need-element-copy-out-lacks Inv-loop μ-loop
+element-copy-out-lacks c = search needs
+
+lacks-requires : tie.Need-lacks-requires Inv-loop μ-loop
+lacks-requires c κs = search needs
 
 add-j : tie.Need-add-j Inv-loop μ-loop
 add-j c = search needs
@@ -43,13 +47,21 @@ loop-less c = search needs
 
 loop-again : tie.Need-loop-again Inv-loop μ-loop
 loop-again c =
-    let a = c .before .before .before .before .before .args in
-    (search needs, all-next (setOk (now (a .labels)) (now (a .b)) (a .at)) (c .before .before .before .loop .j) (c .before .before .before .loop .inv .1) (sym (c .before .labelled-if-set .ensures) ∙ not-false (c .before .labelled-if-set .result) (c .if1 .left)))
+    let a = c .before .before .before .before .before .before .args in
+    let l = c .before .before .before .before .loop in
+    let p = setOk (now (a .labels)) (now (a .b)) (a .at) in (
+      search needs,
+      or-zero (l .any) (c .lacks .result)
+          ∙ ap₂ _&&_ (l .inv .1) (c .lacks .ensures ∙ sym (set-at (now (a .labels)) (now (a .b)) (a .at) (l .j) (search needs)))
+          ∙ sym (all-step p (l .j)),
+    )
 
-returns-2 : tie.Need-returns-2 Inv-loop μ-loop
-returns-2 c =
+returns : tie.Need-returns Inv-loop μ-loop
+returns c =
     let a = c .before .before .before .args in
-    sym (all-done (setOk (now (a .labels)) (now (a .b)) (a .at)) maxEntries (c .before .loop .j) (c .before .loop .inv .0) (c .loop-test .left) (c .before .loop .inv .1))
+    let l = c .before .loop in
+    let e : l .j ≡ maxEntries = omega arith in
+    l .inv .1 ∙ ap (λ (n : ℕ). all (setOk (now (a .labels)) (now (a .b)) (a .at)) (upTo n)) e
 
 pub names-set-spec : {M : Type 1} → statement M
 names-set-spec =
@@ -58,10 +70,11 @@ names-set-spec =
     Inv-loop
     μ-loop
     loop-holds
-    add-labelled-if-set
-    labelled-if-set-requires
-    returns
+    add-lacks
+    shared-slice-read-lacks
+    element-copy-out-lacks
+    lacks-requires
     add-j
     loop-less
     loop-again
-    returns-2)
+    returns)
