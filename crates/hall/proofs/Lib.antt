@@ -8,3 +8,4 @@ pub mod ActsLaws
 pub mod Acting
 pub mod Changes
 pub mod ViewsLaws
+pub mod Heads
