@@ -1,1 +1,2 @@
 pub mod ContentsLaws
+pub mod NextLaws
