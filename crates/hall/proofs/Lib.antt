@@ -9,3 +9,4 @@ pub mod Acting
 pub mod Changes
 pub mod ViewsLaws
 pub mod Heads
+pub mod Appending
