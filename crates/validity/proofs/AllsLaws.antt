@@ -75,15 +75,9 @@ module _ (p : ℕ → Bool) where
         let n : t - i ≡ 0 = omega arith in
         ap (λ (j : ℕ). all p (part i j b)) n
 
-    part-more : (i : ℕ) → i < t → t ≤ length b → all p (part i (t - i) b) ≡ p (getD b i 0) && all p (part (i + 1) (t - (i + 1)) b)
+    pub part-more : (i : ℕ) → i < t → t ≤ length b → all p (part i (t - i) b) ≡ p (getD b i 0) && all p (part (i + 1) (t - (i + 1)) b)
     unfolding all
     part-more i h k = ap (all p) (part-rest i t b h k)
-
-    pub part-fail : (i : ℕ) → i < t → t ≤ length b → p (getD b i 0) ≡ false → all p (part i (t - i) b) ≡ false
-    part-fail i h k e = part-more i h k ∙ rw e
-
-    pub part-next : (i : ℕ) → i < t → t ≤ length b → p (getD b i 0) ≡ true → all p (part i (t - i) b) ≡ all p (part (i + 1) (t - (i + 1)) b)
-    part-next i h k e = part-more i h k ∙ rw e
 
 -- a loop over the views
 module _ (m : ℕ) (b : List ℕ) where

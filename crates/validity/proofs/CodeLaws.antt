@@ -1,19 +1,19 @@
 -- What the code's branches and loops go by, for the cross rules. Assumes nothing.
-use Prim.Native.Nat.{ℕ, _+_, _-_, _*_, _≤_, _<_}
+use Prim.Native.Nat.{ℕ, zero, suc, _+_, _-_, _*_, _≤_, _<_}
 use native.Mathlib.Omega.{arith}
 use mathlib.Core.Path.{_≡_, refl, sym, ap, ap₂, _∙_}
 use mathlib.Core.Bool.{Bool, true, false, not, _&&_, _||_, or-true, and-assoc}
 use mathlib.Core.List.{List}
-use lib.Dec.{eqb, ltb}
-use lib.ListN.{length, getD, take, set, getD-replicate, List·getD-eq-default}
+use lib.Dec.{eqb, leb, ltb}
+use lib.ListN.{length, getD, take, set, replicate, length-set, length-replicate, getD-replicate}
 use lib.Seq.{getD-set-same, getD-set-other}
-use borrow.Author.Tests.{eq-eqb, ne-eqb, eqb-true, eqb-false, ltb-true, ltb-false, lt-ltb, le-ltb, le-leb, lt-leb}
-use Rattle.base.specs.Lists.{has}
+use borrow.Author.Tests.{eq-eqb, ne-eqb, eqb-true, eqb-false, ltb-true, ltb-false, le-leb, lt-leb, leb-true, leb-false}
+use Rattle.base.specs.Lists.{bit, has}
 use Rattle.base.proofs.Bools.{by-cases}
 use Rattle.quorum.specs.Sets.{members}
 use Rattle.model.specs.Ordering.{isLabelled}
 use Rattle.model.specs.Hall.{maxEntries}
-use Rattle.codec.specs.Bytes.{Block, part, zeros}
+use Rattle.codec.specs.Bytes.{Block, part}
 use Rattle.codec.specs.Form.{guarded}
 use Rattle.codec.specs.Number.{value}
 use Rattle.codec.specs.Slice.{Held, holds, valueOf}
@@ -23,83 +23,156 @@ use Rattle.store.specs.Layout.{storedLength, numberSize, entryLabelAt, entrySeq
 use Rattle.store.specs.Valid.{labelledEntry, crossRules}
 use Rattle.store.specs.HallForm.{hallFields, hallForm}
 use Rattle.store.specs.StoredForm.{isStored}
-use Rattle.validity.specs.Marks.{marked, messageMarked, sentAt}
+use Rattle.validity.specs.Marks.{byteValues, messagesFrom, messageMarked, sentAt}
 use Rattle.validity.specs.RawHall.{raw, sizeAt, entryCount, setAt}
 use Rattle.validity.specs.CrossParts.{Labels, queuedOk, apart}
-use Rattle.validity.proofs.MarksLaws.{marked-low, marked-high, marked-in}
-use Rattle.validity.proofs.RawHallLaws.{count-in}
-use Rattle.validity.proofs.CrossPartsLaws.{sender-at, view-at, seq-at, labelled-at, unlabelled}
+use Rattle.validity.proofs.MarksLaws.{message-at, message-past, bit-zero}
+use Rattle.validity.proofs.CrossPartsLaws.{sender-at, view-at, seq-at, labelled-at, unlabelled, named-summary, named-entry}
 
--- ## The labels
+-- ## The table of messages
 
--- what the array has at j when i entries are passed
-unfoldable pub labelByte : List ℕ → ℕ → ℕ → ℕ
-labelByte b i j = elim (ltb j i) [ true ↦ getD b (entryCells + j * entrySize + entrySequenceAt) 0 | false ↦ 0 ]
+-- what the table says of the message x when i entries are passed
+unfoldable pub passedMark : List ℕ → ℕ → Bool → ℕ → Bool
+passedMark b i sent x =
+    elim (eqb x 0) [ true ↦ sent | false ↦ leb x i && not (eqb (getD b (entryCells + (x - 1) * entrySize + entrySequenceAt) 0) 0) ]
 
-passed : (b : List ℕ) (i j : ℕ) → j < i → labelByte b i j ≡ getD b (entryCells + j * entrySize + entrySequenceAt) 0
-unfolding labelByte
-passed b i j h = rw (lt-ltb j i h, labelByte)
+module _ (b : List ℕ) (i : ℕ) (sent : Bool) (x : ℕ) where
+  mark-summary : x ≡ 0 → passedMark b i sent x ≡ sent
+  unfolding passedMark
+  mark-summary h = rw (eq-eqb x 0 h, passedMark)
 
-ahead : (b : List ℕ) (i j : ℕ) → i ≤ j → labelByte b i j ≡ 0
-unfolding labelByte
-ahead b i j h = rw (le-ltb j i h, labelByte)
+  mark-passed : 1 ≤ x → x ≤ i → passedMark b i sent x ≡ not (eqb (getD b (entryCells + (x - 1) * entrySize + entrySequenceAt) 0) 0)
+  unfolding passedMark
+  mark-passed h k = rw (ne-eqb x 0 (λ e. absurd (omega arith)), passedMark, le-leb x i k)
 
-pub labels-start : (b : List ℕ) (j : ℕ) → getD (zeros maxEntries) j 0 ≡ labelByte b 0 j
-labels-start b j =
-    by-cases (ltb j maxEntries) (λ t. getD-replicate maxEntries j 0 0 (ltb-true j maxEntries t)) (λ t. List·getD-eq-default (zeros maxEntries) 0 (past (ltb-false j maxEntries t)))
-    ∙ sym (ahead b 0 j (omega arith))
+  mark-ahead : i < x → passedMark b i sent x ≡ false
+  unfolding passedMark
+  mark-ahead h = rw (ne-eqb x 0 (λ e. absurd (omega arith)), passedMark, lt-leb x i h)
+
+mark-more : (b : List ℕ) (i : ℕ) (sent : Bool) (x : ℕ) → (x ≡ i + 1 → ⊥) → passedMark b i sent x ≡ passedMark b (i + 1) sent x
+mark-more b i sent zero ne = mark-summary b i sent zero refl ∙ sym (mark-summary b (i + 1) sent zero refl)
+mark-more b i sent (suc e) ne = by-cases (leb (suc e) i) used unused
   where
-    past : maxEntries ≤ j → length (zeros maxEntries) ≤ j
-    past h = h
+    used : leb (suc e) i ≡ true → passedMark b i sent (suc e) ≡ passedMark b (i + 1) sent (suc e)
+    used u =
+        let k = leb-true (suc e) i u in
+        mark-passed b i sent (suc e) (omega arith) k ∙ sym (mark-passed b (i + 1) sent (suc e) (omega arith) (omega arith))
 
-pub labels-next : (b l : List ℕ) (i : ℕ) → i < length l → ((j : ℕ) → getD l j 0 ≡ labelByte b i j)
-    → (j : ℕ) → getD (set l i (getD b (entryCells + i * entrySize + entrySequenceAt) 0)) j 0 ≡ labelByte b (i + 1) j
-labels-next b l i h f j = by-cases (eqb j i) here there
+    after : i < suc e → i + 1 < suc e
+    after k = omega arith
+
+    unused : leb (suc e) i ≡ false → passedMark b i sent (suc e) ≡ passedMark b (i + 1) sent (suc e)
+    unused u =
+        let k = leb-false (suc e) i u in
+        mark-ahead b i sent (suc e) k ∙ sym (mark-ahead b (i + 1) sent (suc e) (after k))
+
+-- a new table of n bytes: each message unnamed but the summary that was sent
+module _ (b : List ℕ) (n : ℕ) (fits : 2 * byteValues ≤ n) where
+  abbrev blank : List ℕ
+  blank = set (replicate n 1) byteValues 0
+
+  unnamed : (j : ℕ) → j < n → (j ≡ byteValues → ⊥) → eqb (getD blank j 0) 0 ≡ false
+  unnamed j h ne = ap (λ (z : ℕ). eqb z 0) (getD-set-other (replicate n 1) byteValues j 0 0 ne ∙ getD-replicate n j 1 0 h)
+
+  sent-summary : eqb (getD blank byteValues 0) 0 ≡ true
+  sent-summary =
+      let l : byteValues < length {A = ℕ} (replicate n 1) = simp length-replicate (omega arith) in
+      ap (λ (z : ℕ). eqb z 0) (getD-set-same (replicate n 1) byteValues 0 0 l)
+
+  pub table-start : (sent : Bool) (x : ℕ) → messageMarked (set (replicate n 1) byteValues 0) sent x ≡ passedMark b 0 sent x
+  table-start sent x =
+      by-cases (ltb x byteValues)
+      (λ u. let h = ltb-true x byteValues u in message-at blank sent x h ∙ inside sent h)
+      (λ u. let h = ltb-false x byteValues u in message-past blank sent x h ∙ sym (mark-ahead b 0 sent x (omega arith)))
+    where
+      above : (x ≡ 0 → ⊥) → 0 < x
+      above ne = omega arith
+
+      inside : (s : Bool) → x < byteValues → eqb (getD blank (messagesFrom s + x) 0) 0 ≡ passedMark b 0 s x
+      inside false h =
+          unnamed (messagesFrom false + x) (omega arith) (λ e. omega arith)
+          ∙ sym (by-cases (eqb x 0) (λ t. mark-summary b 0 false x (eqb-true x 0 t)) (λ t. mark-ahead b 0 false x (above (eqb-false x 0 t))))
+      inside true h = by-cases (eqb x 0) none some
+        where
+          none : eqb x 0 ≡ true → eqb (getD blank (messagesFrom true + x) 0) 0 ≡ passedMark b 0 true x
+          none t =
+              let z = eqb-true x 0 t in
+              let e : messagesFrom true + x ≡ byteValues = omega arith in
+              ap (λ (j : ℕ). eqb (getD blank j 0) 0) e ∙ sent-summary ∙ sym (mark-summary b 0 true x z)
+
+          some : eqb x 0 ≡ false → eqb (getD blank (messagesFrom true + x) 0) 0 ≡ passedMark b 0 true x
+          some t =
+              let z = above (eqb-false x 0 t) in
+              unnamed (messagesFrom true + x) (omega arith) (λ e. omega arith) ∙ sym (mark-ahead b 0 true x z)
+
+-- one entry more, with v for its label
+module _ (b t : List ℕ) (i : ℕ) (h : i < maxEntries) (n : 2 * byteValues ≤ length t) (v : ℕ) where
+  abbrev more : List ℕ
+  more = set (set t (i + 1) v) (byteValues + (i + 1)) v
+
+  written : (s : Bool) → getD more (messagesFrom s + (i + 1)) 0 ≡ v
+  written false =
+      let e : messagesFrom false + (i + 1) ≡ i + 1 = omega arith in
+      ap (λ (j : ℕ). getD more j 0) e
+      ∙ getD-set-other (set t (i + 1) v) (byteValues + (i + 1)) (i + 1) v 0 (λ q. omega arith)
+      ∙ getD-set-same t (i + 1) v 0 (omega arith)
+  written true =
+      let l : byteValues + (i + 1) < length (set t (i + 1) v) = simp length-set (omega arith) in
+      getD-set-same (set t (i + 1) v) (byteValues + (i + 1)) v 0 l
+
+  kept : (s : Bool) (x : ℕ) → x < byteValues → (x ≡ i + 1 → ⊥) → getD more (messagesFrom s + x) 0 ≡ getD t (messagesFrom s + x) 0
+  kept s x k ne =
+      getD-set-other (set t (i + 1) v) (byteValues + (i + 1)) (messagesFrom s + x) v 0 (far s)
+      ∙ getD-set-other t (i + 1) (messagesFrom s + x) v 0 (near s)
+    where
+      far : (s : Bool) → messagesFrom s + x ≡ byteValues + (i + 1) → ⊥
+      far false q = omega arith
+      far true q = ne (omega arith)
+
+      near : (s : Bool) → messagesFrom s + x ≡ i + 1 → ⊥
+      near false q = ne (omega arith)
+      near true q = omega arith
+
+  module _ (f : (sent : Bool) (x : ℕ) → messageMarked t sent x ≡ passedMark b i sent x) (e : v ≡ bit (eqb (getD b (entryCells + i * entrySize + entrySequenceAt) 0) 0)) where
+    pub table-next : (sent : Bool) (x : ℕ) → messageMarked (set (set t (i + 1) v) (byteValues + (i + 1)) v) sent x ≡ passedMark b (i + 1) sent x
+    table-next sent x =
+        by-cases (ltb x byteValues)
+        (λ u. by-cases (eqb x (i + 1)) (here (ltb-true x byteValues u)) (there (ltb-true x byteValues u)))
+        (λ u. let k = ltb-false x byteValues u in message-past more sent x k ∙ sym (mark-ahead b (i + 1) sent x (omega arith)))
+      where
+        here : x < byteValues → eqb x (i + 1) ≡ true → messageMarked more sent x ≡ passedMark b (i + 1) sent x
+        here k u =
+            let q = eqb-true x (i + 1) u in
+            let p : i ≡ x - 1 = omega arith in
+            message-at more sent x k
+            ∙ ap (λ (z : ℕ). eqb z 0) (ap (λ (y : ℕ). getD more (messagesFrom sent + y) 0) q ∙ written sent ∙ e)
+            ∙ bit-zero (eqb (getD b (entryCells + i * entrySize + entrySequenceAt) 0) 0)
+            ∙ ap (λ (j : ℕ). not (eqb (getD b (entryCells + j * entrySize + entrySequenceAt) 0) 0)) p
+            ∙ sym (mark-passed b (i + 1) sent x (omega arith) (omega arith))
+
+        there : x < byteValues → eqb x (i + 1) ≡ false → messageMarked more sent x ≡ passedMark b (i + 1) sent x
+        there k u =
+            let ne = eqb-false x (i + 1) u in
+            message-at more sent x k
+            ∙ ap (λ (z : ℕ). eqb z 0) (kept sent x k ne)
+            ∙ sym (message-at t sent x k)
+            ∙ f sent x
+            ∙ mark-more b i sent x ne
+
+pub table-done : (b t : List ℕ) → Held hallFields b → ((sent : Bool) (x : ℕ) → messageMarked t sent x ≡ passedMark b (entryCount b) sent x) → Labels (raw b .entries) t
+table-done b t K f sent zero = f sent zero ∙ mark-summary b (entryCount b) sent zero refl ∙ sym (named-summary (raw b .entries) sent zero refl)
+table-done b t K f sent (suc e) =
+    f sent (suc e) ∙ by-cases (leb (suc e) (entryCount b)) used unused ∙ sym (named-entry (raw b .entries) sent (suc e) (omega arith))
   where
-    more : j < i → j < i + 1
-    more h = omega arith
+    used : leb (suc e) (entryCount b) ≡ true → passedMark b (entryCount b) sent (suc e) ≡ labelledEntry (raw b .entries) (suc e)
+    used u =
+        let k = leb-true (suc e) (entryCount b) u in
+        mark-passed b (entryCount b) sent (suc e) (omega arith) k ∙ sym (labelled-at b K (suc e) (omega arith) k)
 
-    after : (j ≡ i → ⊥) → i ≤ j → i + 1 ≤ j
-    after ne h = omega arith
-
-    here : eqb j i ≡ true → getD (set l i (getD b (entryCells + i * entrySize + entrySequenceAt) 0)) j 0 ≡ labelByte b (i + 1) j
-    here t =
-        let e = eqb-true j i t in
-        ap (λ (k : ℕ). getD (set l i (getD b (entryCells + i * entrySize + entrySequenceAt) 0)) k 0) e
-        ∙ getD-set-same l i (getD b (entryCells + i * entrySize + entrySequenceAt) 0) 0 h
-        ∙ sym (passed b (i + 1) i (omega arith))
-        ∙ ap (labelByte b (i + 1)) (sym e)
-
-    there : eqb j i ≡ false → getD (set l i (getD b (entryCells + i * entrySize + entrySequenceAt) 0)) j 0 ≡ labelByte b (i + 1) j
-    there t =
-        let ne = eqb-false j i t in
-        getD-set-other l i j (getD b (entryCells + i * entrySize + entrySequenceAt) 0) 0 ne
-        ∙ f j
-        ∙ by-cases (ltb j i)
-        (λ u. passed b i j (ltb-true j i u) ∙ sym (passed b (i + 1) j (more (ltb-true j i u))))
-        (λ u. ahead b i j (ltb-false j i u) ∙ sym (ahead b (i + 1) j (after ne (ltb-false j i u))))
-
-pub labels-done : (b l : List ℕ) → Held hallFields b → ((j : ℕ) → getD l j 0 ≡ labelByte b (entryCount b) j) → Labels (raw b .entries) l
-labels-done b l K f x = by-cases (ltb x 1) low (λ t. by-cases (ltb (entryCount b) x) (high (ltb-false x 1 t)) (λ u. used (ltb-false x 1 t) (ltb-false (entryCount b) x u)))
-  where
-    low : ltb x 1 ≡ true → marked l x ≡ labelledEntry (raw b .entries) x
-    low t =
-        let h = ltb-true x 1 t in
-        marked-low l x h ∙ sym (unlabelled b K x (λ k. absurd (omega arith)))
-
-    high : 1 ≤ x → ltb (entryCount b) x ≡ true → marked l x ≡ labelledEntry (raw b .entries) x
-    high h t =
-        let k = ltb-true (entryCount b) x t in
-        by-cases (ltb maxEntries x) (λ u. marked-high l x (ltb-true maxEntries x u))
-        (λ u. marked-in l x h (ltb-false maxEntries x u) ∙ ap (λ (z : ℕ). not (eqb z 0)) (f (x - 1) ∙ ahead b (entryCount b) (x - 1) (omega arith)))
-        ∙ sym (unlabelled b K x (λ g. k))
-
-    used : 1 ≤ x → x ≤ entryCount b → marked l x ≡ labelledEntry (raw b .entries) x
-    used h k =
-        let c = count-in b K in
-        marked-in l x h (omega arith)
-        ∙ ap (λ (z : ℕ). not (eqb z 0)) (f (x - 1) ∙ passed b (entryCount b) (x - 1) (omega arith))
-        ∙ sym (labelled-at b K x h k)
+    unused : leb (suc e) (entryCount b) ≡ false → passedMark b (entryCount b) sent (suc e) ≡ labelledEntry (raw b .entries) (suc e)
+    unused u =
+        let k = leb-false (suc e) (entryCount b) u in
+        mark-ahead b (entryCount b) sent (suc e) k ∙ sym (unlabelled b K (suc e) (λ g. k))
 
 -- two entries: the same, or the first without a label, or by the three parts of the label
 module _ (b : List ℕ) (K : Held hallFields b) (d e : ℕ) (dl : 1 ≤ d) (du : d ≤ entryCount b) (el : 1 ≤ e) (eu : e ≤ entryCount b) where

@@ -1,21 +1,21 @@
 -- Laws of specs/CrossParts. Assumes nothing.
 use Prim.Native.Nat.{ℕ, zero, suc, _+_, _-_, _*_, _≤_, _<_}
 use native.Mathlib.Omega.{arith}
-use native.Mathlib.Nat.{suc-ne-zero}
+use native.Mathlib.Nat.{not-suc-le-zero}
 use mathlib.Core.Path.{_≡_, refl, sym, ap, ap₂, _∙_}
 use mathlib.Core.Bool.{Bool, true, false, not, _&&_, _||_, false≢true}
 use mathlib.Core.List.{List}
 use lib.Dec.{eqb, ltb}
 use lib.ListN.{length, getD, drop}
 use lib.Seq.{drop-drop}
-use borrow.Author.Tests.{eqb-true, eqb-false, ltb-true, ltb-false}
+use borrow.Author.Tests.{eq-eqb, ne-eqb, ltb-true, ltb-false}
 use Rattle.base.specs.Lists.{has, all}
 use Rattle.base.specs.Numbers.{upTo}
 use Rattle.base.proofs.Bools.{by-cases}
 use Rattle.base.proofs.NumbersLaws.{upTo-range, has-upTo}
 use Rattle.quorum.specs.Sets.{members}
 use Rattle.quorum.proofs.SetLaws.{members-range}
-use Rattle.model.specs.Hall.{maxEntries, Message.summary, Queued, maxBuffer, maxOrder, maxRecorders}
+use Rattle.model.specs.Hall.{Entries, maxEntries, Message.summary, Queued, maxBuffer, maxOrder, maxRecorders}
 use Rattle.model.specs.Opening.{blankSummary}
 use Rattle.model.specs.Ordering.{isLabelled, numbers}
 use Rattle.codec.specs.Bytes.{part}
@@ -37,9 +37,9 @@ use Rattle.store.proofs.CellFormsLaws.{message-lawful}
 use Rattle.ranges.specs.TableParts.{viewNumbers, viewAt, Found}
 use Rattle.validity.specs.Marks.{messageMarked, flagAt, endpointOff, sentAt, setOk, sourceOk, heardOk}
 use Rattle.validity.specs.RawHall.{raw, sizeAt, viewCount, entryCount, setAt}
-use Rattle.validity.specs.CrossParts.{Labels, queuedOk, summaryOk, apart, viewCross}
+use Rattle.validity.specs.CrossParts.{named, Labels, queuedOk, summaryOk, apart, viewCross}
 use Rattle.validity.proofs.AllsLaws.{all-same, all-true}
-use Rattle.validity.proofs.MarksLaws.{marked-low, message-summary, message-entry, flags-at}
+use Rattle.validity.proofs.MarksLaws.{flags-at}
 use Rattle.validity.proofs.Values.{viewNumber-value, summary-value, recorder-value, messageOf, message-value, queued-value}
 use Rattle.validity.proofs.RawHallLaws.{set-in, set-out, no-members, long, size-in, raw-size, raw-created, raw-count, raw-entry, view-members, found-members}
 use Rattle.validity.proofs.RawCells.{raw-recorder, recorder-lists, queue-list, endpoint-room, pending-count, pending-list, raw-sent, summary-none, summary-some, summary-list}
@@ -88,15 +88,19 @@ module _ (b : List ℕ) (K : Held hallFields b) where
 
 -- ## Lists, sets and messages
 
+module _ (es : Entries) (sent : Bool) (x : ℕ) where
+  pub named-summary : x ≡ 0 → named es sent x ≡ sent
+  unfolding named
+  named-summary e = rw (eq-eqb x 0 e, named)
+
+  pub named-entry : 1 ≤ x → named es sent x ≡ labelledEntry es x
+  unfolding named
+  named-entry h = rw (ne-eqb x 0 (λ e. omega arith), named)
+
 module _ (b : List ℕ) (K : Held hallFields b) (l : List ℕ) (M : Labels (raw b .entries) l) where
   names-entry : (x : ℕ) → messageMarked l false x ≡ labelledEntry (raw b .entries) x
-  names-entry x =
-      by-cases (eqb x 0)
-      (λ t. message-summary l x false (eqb-true x 0 t) ∙ sym (marked-low l x (low (eqb-true x 0 t))) ∙ M x)
-      (λ t. message-entry l x false (eqb-false x 0 t) ∙ M x)
-    where
-      low : x ≡ 0 → x < 1
-      low e = omega arith
+  names-entry zero = M false zero ∙ named-summary (raw b .entries) false zero refl ∙ sym (unlabelled b K zero (λ h. absurd (not-suc-le-zero h)))
+  names-entry (suc e) = M false (suc e) ∙ named-entry (raw b .entries) false (suc e) (omega arith)
 
   list-names : (o : ℕ) → o + listSize maxOrder ≤ length b → bounded (byte 1 maxEntries) maxOrder .valid (part o (listSize maxOrder) b) ≡ true
       → listNames (raw b .entries) (bounded (byte 1 maxEntries) maxOrder .decode (part o (listSize maxOrder) b)) ≡ all (messageMarked l false) (listAt b o)
@@ -109,12 +113,12 @@ module _ (b : List ℕ) (K : Held hallFields b) (l : List ℕ) (M : Labels (raw 
   unfolding setNames setOk
   set-names o h =
       all-same _ _ (upTo maxEntries)
-      (λ e k. let r = upTo-range maxEntries e k in ap₂ (λ (s t : Bool). not s || t) (flags-at maxEntries o b h e (r .0) (r .1)) (sym (M e)))
+      (λ e k. let r = upTo-range maxEntries e k in ap₂ (λ (s t : Bool). not s || t) (flags-at maxEntries o b h e (r .0) (r .1)) (sym (names-entry e)))
 
   message-names : (q g x : ℕ) → messageNames (raw b) q g (messageOf x) ≡ messageMarked l (raw b .summaries .sent q g) x
   unfolding messageNames messageOf
-  message-names q g zero = sym (message-summary l 0 (raw b .summaries .sent q g) refl)
-  message-names q g (suc e) = sym (M (suc e)) ∙ sym (message-entry l (suc e) (raw b .summaries .sent q g) (suc-ne-zero e))
+  message-names q g zero = sym (M (raw b .summaries .sent q g) zero ∙ named-summary (raw b .entries) (raw b .summaries .sent q g) zero refl)
+  message-names q g (suc e) = sym (M (raw b .summaries .sent q g) (suc e) ∙ named-entry (raw b .entries) (raw b .summaries .sent q g) (suc e) (omega arith))
 
   messages-names : (q g c o : ℕ) → o + c ≤ length b
       → messagesName (raw b) q g (decodeAll messageForm c (drop o b)) ≡ all (messageMarked l (raw b .summaries .sent q g)) (part o c b)

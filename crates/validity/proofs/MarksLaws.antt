@@ -5,10 +5,11 @@ use native.Mathlib.Nat.{mul-one, not-suc-le-zero, le-of-suc-le-suc}
 use mathlib.Core.Path.{_≡_, refl, sym, ap, ap₂, _∙_}
 use mathlib.Core.Bool.{Bool, true, false, not, _||_}
 use mathlib.Core.List.{List, [], _∷_}
-use lib.Dec.{eqb}
+use lib.Dec.{eqb, lit≤}
 use lib.ListN.{length, getD, drop, length-take, length-drop}
 use lib.Seq.{getD-take, getD-drop}
-use borrow.Author.Tests.{eq-eqb, ne-eqb, eqb-true, eqb-false, lt-ltb, le-ltb, le-leb, lt-leb}
+use borrow.Author.Tests.{eq-eqb, ne-eqb, eqb-true, eqb-false, lt-ltb, le-ltb}
+use Rattle.base.specs.Lists.{bit}
 use Rattle.base.specs.Numbers.{numbers}
 use Rattle.base.proofs.Bools.{by-cases}
 use Rattle.base.proofs.NumbersLaws.{length-numbers}
@@ -18,28 +19,26 @@ use Rattle.codec.specs.Form.{mapped}
 use Rattle.codec.specs.Number.{value, number, flag}
 use Rattle.codec.specs.Cells.{decodeAll, cells}
 use Rattle.codec.specs.Table.{lookup, table, flags}
-use Rattle.validity.specs.Marks.{marked, messageMarked, flagAt, setOk}
+use Rattle.validity.specs.Marks.{byteValues, messagesFrom, messageMarked, flagAt, setOk}
 
-module _ (l : List ℕ) (x : ℕ) where
-  pub marked-low : x < 1 → marked l x ≡ false
-  unfolding marked
-  marked-low h = rw (le-ltb 0 x (omega arith))
+pub from-small : (sent : Bool) → messagesFrom sent ≤ byteValues
+from-small true = lit≤ tt
+from-small false = lit≤ tt
 
-  pub marked-high : maxEntries < x → marked l x ≡ false
-  unfolding marked
-  marked-high h = rw (lt-ltb 0 x (omega arith), lt-leb x maxEntries h)
+-- the table's byte of a message
+pub message-at : (t : List ℕ) (sent : Bool) (x : ℕ) → x < byteValues → messageMarked t sent x ≡ eqb (getD t (messagesFrom sent + x) 0) 0
+unfolding messageMarked
+message-at t sent x h = rw (lt-ltb x byteValues h)
 
-  pub marked-in : 1 ≤ x → x ≤ maxEntries → marked l x ≡ not (eqb (getD l (x - 1) 0) 0)
-  unfolding marked
-  marked-in h k = rw (lt-ltb 0 x h, le-leb x maxEntries k)
+-- a number that is no byte
+pub message-past : (t : List ℕ) (sent : Bool) (x : ℕ) → byteValues ≤ x → messageMarked t sent x ≡ false
+unfolding messageMarked
+message-past t sent x h = rw (le-ltb x byteValues h)
 
-  pub message-summary : (s : Bool) → x ≡ 0 → messageMarked l s x ≡ s
-  unfolding messageMarked
-  message-summary s e = rw (eq-eqb x 0 e, messageMarked)
-
-  pub message-entry : (s : Bool) → (x ≡ 0 → ⊥) → messageMarked l s x ≡ marked l x
-  unfolding messageMarked
-  message-entry s e = rw (ne-eqb x 0 e, messageMarked)
+-- a byte made of a test is 0 where the test fails
+pub bit-zero : (t : Bool) → eqb (bit t) 0 ≡ not t
+bit-zero true = refl
+bit-zero false = refl
 
 -- what is asked where the flag x is set
 pub flag-on : (x : ℕ) (t : Bool) → 1 ≡ x → (not (eqb 1 x) || t) ≡ t
@@ -52,13 +51,14 @@ flag-off x t e = rw (ne-eqb 1 x e)
 pub unset : (x : ℕ) (t : Bool) → (1 ≡ x → ⊥) → not (eqb 1 x) ≡ (not (eqb 1 x) || t)
 unset x t e = rw (ne-eqb 1 x e)
 
--- the flag at j and its entry's label
-pub set-at : (l b : List ℕ) (o j : ℕ) → j < maxEntries → setOk l b o (j + 1) ≡ (not (eqb 1 (getD b (o + j) 0)) || not (eqb (getD l j 0) 0))
+-- the flag at j and its entry's byte in the table
+pub set-at : (t b : List ℕ) (o j : ℕ) → j < maxEntries → setOk t b o (j + 1) ≡ (not (eqb 1 (getD b (o + j) 0)) || eqb (getD t (j + 1) 0) 0)
 unfolding setOk
-set-at l b o j h =
+set-at t b o j h =
     let e : j + 1 - 1 ≡ j = omega arith in
-    ap₂ (λ (s t : Bool). not s || t) (ap (λ (i : ℕ). eqb 1 (getD b (o + i) 0)) e)
-    (marked-in l (j + 1) (omega arith) (omega arith) ∙ ap (λ (i : ℕ). not (eqb (getD l i 0) 0)) e)
+    let f : messagesFrom false + (j + 1) ≡ j + 1 = omega arith in
+    ap₂ (λ (s u : Bool). not s || u) (ap (λ (i : ℕ). eqb 1 (getD b (o + i) 0)) e)
+    (message-at t false (j + 1) (omega arith) ∙ ap (λ (i : ℕ). eqb (getD t i 0) 0) f)
 
 -- flags, as the form has them
 lookup-number : {A : Type 0} (s n : ℕ) (xs : List A) (d : A) (j : ℕ) → s ≤ j → j < s + n → n ≤ length xs → lookup (numbers s n) d xs j ≡ getD xs (j - s) d

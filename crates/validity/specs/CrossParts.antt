@@ -1,7 +1,7 @@
 -- The cross rules of the hall that bytes in range hold, as the code tests them. Assumes nothing.
 use Prim.Native.Nat.{ℕ, _+_, _<_}
 use mathlib.Core.Path.{_≡_}
-use mathlib.Core.Bool.{Bool, false, not, _&&_, _||_}
+use mathlib.Core.Bool.{Bool, true, false, not, _&&_, _||_}
 use mathlib.Core.List.{List}
 use lib.Dec.{eqb}
 use lib.ListN.{getD}
@@ -13,36 +13,40 @@ use Rattle.model.specs.Ordering.{isLabelled}
 use Rattle.codec.specs.ByteList.{listAt}
 use Rattle.store.specs.Valid.{labelledEntry, queueNames, endpointCross}
 use Rattle.store.specs.Layout.{summaryOrderAt, endpointSentAt, endpointSummaryAt}
-use Rattle.validity.specs.Marks.{marked, messageMarked, sentAt, setOk}
+use Rattle.validity.specs.Marks.{messageMarked, sentAt, setOk}
 use Rattle.validity.specs.RawHall.{Ranged, raw, sizeAt, viewCount, setAt}
 
--- l marks the labelled entries of es
-abbrev pub Labels : Entries → List ℕ → Type 0
-Labels es l = (x : ℕ) → marked l x ≡ labelledEntry es x
+-- the message x, 0 for the summary, is a labelled entry of es, or the summary is sent
+unfoldable pub named : Entries → Bool → ℕ → Bool
+named es sent x = elim (eqb x 0) [ true ↦ sent | false ↦ labelledEntry es x ]
 
--- bytes in range, and l marks their labelled entries
-pub record Labelled (b l : List ℕ) : Type 0 where
+-- the table t marks the messages that are named
+abbrev pub Labels : Entries → List ℕ → Type 0
+Labels es t = (sent : Bool) (x : ℕ) → messageMarked t sent x ≡ named es sent x
+
+-- bytes in range, and t marks the messages that are named
+pub record Labelled (b t : List ℕ) : Type 0 where
   pub ranged : Ranged b
-  pub labels : Labels (raw b .entries) l
+  pub labels : Labels (raw b .entries) t
 
 -- the same, and i is the index of a formed view
-pub record LabelledView (b l : List ℕ) (i : ℕ) : Type 0 where
+pub record LabelledView (b t : List ℕ) (i : ℕ) : Type 0 where
   pub ranged : Ranged b
-  pub labels : Labels (raw b .entries) l
+  pub labels : Labels (raw b .entries) t
   pub formed : i < viewCount b
 
 -- the queued message at offset o, in the view at index i, is a member's and names what it may
 unfoldable pub queuedOk : List ℕ → List ℕ → ℕ → ℕ → Bool
-queuedOk l b i o =
+queuedOk t b i o =
     let source = getD b o 0 in
-    has (members (sizeAt b) (setAt b i)) source && messageMarked l (sentAt b source i) (getD b (o + 1) 0)
+    has (members (sizeAt b) (setAt b i)) source && messageMarked t (sentAt b source i) (getD b (o + 1) 0)
 
 -- the summary of the endpoint at offset o, if it was sent
 unfoldable pub summaryOk : List ℕ → List ℕ → ℕ → Bool
-summaryOk l b o =
+summaryOk t b o =
     not (eqb 1 (getD b (o + endpointSentAt) 0))
-    || (all (setOk l b (o + endpointSummaryAt)) (upTo maxEntries)
-    && all (messageMarked l false) (listAt b (o + endpointSummaryAt + summaryOrderAt)))
+    || (all (setOk t b (o + endpointSummaryAt)) (upTo maxEntries)
+    && all (messageMarked t false) (listAt b (o + endpointSummaryAt + summaryOrderAt)))
 
 -- ## Entries
 

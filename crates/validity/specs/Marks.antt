@@ -2,21 +2,25 @@
 use Prim.Native.Nat.{ℕ, _+_, _-_, _*_}
 use mathlib.Core.Bool.{Bool, true, false, not, _&&_, _||_}
 use mathlib.Core.List.{List}
-use lib.Dec.{eqb, leb, ltb}
+use lib.Dec.{eqb, ltb}
 use lib.ListN.{getD}
 use Rattle.base.specs.Lists.{has}
 use Rattle.quorum.specs.Sets.{members}
-use Rattle.model.specs.Hall.{maxEntries}
 use Rattle.store.specs.Layout.{networkAt, endpointSize, rowSize, endpointSentAt}
 use Rattle.validity.specs.RawHall.{sizeAt}
 
--- is entry x labelled, by the list l of label sequence numbers, 0 for none?
-unfoldable pub marked : List ℕ → ℕ → Bool
-marked l x = (ltb 0 x && leb x maxEntries) && not (eqb (getD l (x - 1) 0) 0)
+-- how many values a byte has
+abbrev pub byteValues : ℕ
+byteValues = 256
 
--- the same of a message, 0 for the summary, which may be sent
+-- where the messages of a source begin in the table of messages: those of one that did not send its summary come first
+abbrev pub messagesFrom : Bool → ℕ
+messagesFrom true = byteValues
+messagesFrom false = 0
+
+-- is the message x, 0 for the summary, a labelled entry or a summary that was sent? The table t has 0 for it, else 1
 unfoldable pub messageMarked : List ℕ → Bool → ℕ → Bool
-messageMarked l sent x = elim (eqb x 0) [ true ↦ sent | false ↦ marked l x ]
+messageMarked t sent x = ltb x byteValues && eqb (getD t (messagesFrom sent + x) 0) 0
 
 -- flag k, 1 .., of those at offset o
 abbrev pub flagAt : List ℕ → ℕ → ℕ → Bool
@@ -31,7 +35,7 @@ sentAt b p i = eqb 1 (getD b (endpointOff p i + endpointSentAt) 0)
 
 -- an entry of a set is labelled
 unfoldable pub setOk : List ℕ → List ℕ → ℕ → ℕ → Bool
-setOk l b o e = not (flagAt b o e) || marked l e
+setOk t b o e = not (flagAt b o e) || messageMarked t false e
 
 -- a safe source is a member of the set m
 unfoldable pub sourceOk : List ℕ → ℕ → ℕ → ℕ → Bool

@@ -14,7 +14,7 @@ ghost use Rattle.store.specs.Valid.{recorderCross, endpointCross, crossRules};
 ghost use Rattle.store.specs.StoredForm.{isStored};
 ghost use Rattle.store.specs.Layout.{queuedSize, viewCells, entriesAt, storedLength};
 ghost use Rattle.ranges.specs.TableParts.{viewNumbers, viewAt};
-ghost use Rattle.validity.specs.Marks.{marked, messageMarked, sentAt, setOk, sourceOk, heardOk};
+ghost use Rattle.validity.specs.Marks.{messagesFrom, messageMarked, sentAt, setOk, sourceOk, heardOk};
 ghost use Rattle.validity.specs.RawHall.{Ranged, raw, sizeAt, viewCount, entryCount, setAt};
 ghost use Rattle.validity.specs.CrossParts.{Labels, Labelled, LabelledView};
 ghost use Rattle.validity.specs.CrossParts.{queuedOk, summaryOk, apart, queueCross, viewCross};
@@ -22,39 +22,42 @@ use model::limits;
 use quorum::in_mask;
 use store::layout;
 
-// How many entries there may be, as a byte.
-const ENTRIES: u8 = limits::MAX_ENTRIES as u8;
+// How many values a byte has.
+const BYTES: usize = 256;
 
-// Is entry x labelled? `labels` has the sequence number of each entry's label, 0 for none.
-fn is_marked(labels: &[u8; limits::MAX_ENTRIES], x: u8) -> bool
-    requires { ⌜ 1 ≤ x ⌝ }
-    ensures { λ r. ⌜ r ≡ marked (now (labels .entry)) x ⌝ }
+// How many messages the table of those not named has: each byte, of a source that did not send its summary and of one
+// that did.
+const MESSAGES: usize = 2 * BYTES;
+
+// Where the messages of a source begin in the table.
+fn messages_from(sent: bool) -> usize
+    ensures { λ r. ⌜ r ≡ messagesFrom sent ⌝ }
 {
-    x <= ENTRIES && labels[(x - 1) as usize] != 0
+    if sent { BYTES } else { 0 }
 }
 
 // Is a message a labelled entry, or the summary of a source that sent it?
-fn names_message(labels: &[u8; limits::MAX_ENTRIES], sent: bool, x: u8) -> bool
-    ensures { λ r. ⌜ r ≡ messageMarked (now (labels .entry)) sent x ⌝ }
+fn names_message(unnamed: &[u8; MESSAGES], sent: bool, x: u8) -> bool
+    ensures { λ r. ⌜ r ≡ messageMarked (now (unnamed .entry)) sent x ⌝ }
 {
-    if x == 0 { sent } else { is_marked(labels, x) }
+    unnamed[messages_from(sent) + x as usize] == 0
 }
 
 // Does each byte of a list name a labelled entry, or a summary that was sent?
-fn names_all(b: &[u8], at: usize, labels: &[u8; limits::MAX_ENTRIES], sent: bool) -> bool
+fn names_all(b: &[u8], at: usize, unnamed: &[u8; MESSAGES], sent: bool) -> bool
     requires { ⌜ at + 256 ≤ length (now b) ⌝ }
-    ensures { λ r. ⌜ r ≡ all (messageMarked (now (labels .entry)) sent) (listAt (now (b .entry)) at) ⌝ }
+    ensures { λ r. ⌜ r ≡ all (messageMarked (now (unnamed .entry)) sent) (listAt (now (b .entry)) at) ⌝ }
 {
     let from = at + 1;
     let end = from + b[at] as usize;
+    let start = messages_from(sent);
+    let mut any: u8 = 0;
     let mut i = from;
     while i < end {
-        if !names_message(labels, sent, b[i]) {
-            return false;
-        }
+        any = any | unnamed[start + b[i] as usize];
         i += 1;
     }
-    true
+    any == 0
 }
 
 // 1 if a flag is set and its entry is not labelled, else 0.
@@ -65,14 +68,14 @@ fn lacks(flag: u8, labelled: bool) -> u8
 }
 
 // Are the entries of the set of flags at an offset labelled?
-fn names_set(b: &[u8], at: usize, labels: &[u8; limits::MAX_ENTRIES]) -> bool
+fn names_set(b: &[u8], at: usize, unnamed: &[u8; MESSAGES]) -> bool
     requires { ⌜ at + maxEntries ≤ length (now b) ⌝ }
-    ensures { λ r. ⌜ r ≡ all (setOk (now (labels .entry)) (now (b .entry)) at) (upTo maxEntries) ⌝ }
+    ensures { λ r. ⌜ r ≡ all (setOk (now (unnamed .entry)) (now (b .entry)) at) (upTo maxEntries) ⌝ }
 {
     let mut any: u8 = 0;
     let mut j = 0;
     while j < limits::MAX_ENTRIES {
-        any = any | lacks(b[at + j], labels[j] != 0);
+        any = any | lacks(b[at + j], unnamed[j + 1] == 0);
         j += 1;
     }
     any == 0
@@ -154,19 +157,23 @@ fn view_set(b: &[u8], i: usize) -> u8
     }
 }
 
-// The sequence number of each entry's label, 0 for none.
-fn labels_of(b: &[u8]) -> [u8; limits::MAX_ENTRIES]
+// The table of the messages that are not named: 0 for a labelled entry and for a summary that was sent, else 1.
+fn unnamed_of(b: &[u8]) -> [u8; MESSAGES]
     requires { ⌜ Ranged (now b) ⌝ }
     ensures { λ r. ⌜ Labels (raw (now (b .entry)) .entries) r ⌝ }
 {
     let m = b[layout::ENTRY_COUNT] as usize;
-    let mut labels = [0u8; limits::MAX_ENTRIES];
+    let mut unnamed = [1u8; MESSAGES];
+    unnamed[BYTES] = 0;
     let mut i = 0;
     while i < m {
-        labels[i] = b[layout::ENTRIES + i * layout::ENTRY + layout::ENTRY_SEQUENCE];
+        let sequence = b[layout::ENTRIES + i * layout::ENTRY + layout::ENTRY_SEQUENCE];
+        let x = codec::flag_byte(sequence == 0);
         i += 1;
+        unnamed[i] = x;
+        unnamed[BYTES + i] = x;
     }
-    labels
+    unnamed
 }
 
 // Is entry d the same as e, without a label, or with another label?
@@ -220,29 +227,29 @@ fn labels_alone(b: &[u8], m: usize) -> bool
 }
 
 // Is the queued message at an offset a member's, and does it name a labelled entry or a sent summary?
-fn names_queued(b: &[u8], i: usize, at: usize, labels: &[u8; limits::MAX_ENTRIES]) -> bool
+fn names_queued(b: &[u8], i: usize, at: usize, unnamed: &[u8; MESSAGES]) -> bool
     requires { ⌜ Ranged (now b) × ((i < viewCount (now b)) × (at + queuedSize ≤ length (now b))) ⌝ }
-    ensures { λ r. ⌜ r ≡ queuedOk (now (labels .entry)) (now (b .entry)) i at ⌝ }
+    ensures { λ r. ⌜ r ≡ queuedOk (now (unnamed .entry)) (now (b .entry)) i at ⌝ }
 {
     let source = b[at] as usize;
     is_member(b[0], view_set(b, i), source)
         && names_message(
-            labels,
+            unnamed,
             is_sent(b, source, i),
             b[at + layout::QUEUED_MESSAGE],
         )
 }
 
 // Are the queued messages of the view at index i those of members, naming labelled entries and sent summaries?
-fn names_queue(b: &[u8], i: usize, labels: &[u8; limits::MAX_ENTRIES]) -> bool
-    requires { ⌜ LabelledView (now b) (now labels) i ⌝ }
+fn names_queue(b: &[u8], i: usize, unnamed: &[u8; MESSAGES]) -> bool
+    requires { ⌜ LabelledView (now b) (now unnamed) i ⌝ }
     ensures { λ r. ⌜ r ≡ queueCross (raw (now (b .entry))) (viewAt (now (b .entry)) i) ⌝ }
 {
     let at = layout::QUEUES + i * layout::QUEUE;
     let count = b[at] as usize;
     let mut j = 0;
     while j < count {
-        if !names_queued(b, i, at + 1 + j * layout::QUEUED, labels) {
+        if !names_queued(b, i, at + 1 + j * layout::QUEUED, unnamed) {
             return false;
         }
         j += 1;
@@ -251,40 +258,40 @@ fn names_queue(b: &[u8], i: usize, labels: &[u8; limits::MAX_ENTRIES]) -> bool
 }
 
 // Does the summary of the endpoint at an offset, if it was sent, name labelled entries?
-fn names_summary(b: &[u8], at: usize, labels: &[u8; limits::MAX_ENTRIES]) -> bool
+fn names_summary(b: &[u8], at: usize, unnamed: &[u8; MESSAGES]) -> bool
     requires { ⌜ at + 512 ≤ length (now b) ⌝ }
-    ensures { λ r. ⌜ r ≡ summaryOk (now (labels .entry)) (now (b .entry)) at ⌝ }
+    ensures { λ r. ⌜ r ≡ summaryOk (now (unnamed .entry)) (now (b .entry)) at ⌝ }
 {
     if 1 == b[at + layout::ENDPOINT_SENT] {
         let known = at + layout::ENDPOINT_SUMMARY;
-        names_set(b, known, labels) & names_all(b, known + layout::SUMMARY_ORDER, labels, false)
+        names_set(b, known, unnamed) & names_all(b, known + layout::SUMMARY_ORDER, unnamed, false)
     } else {
         true
     }
 }
 
 // "Pending and queued messages, summaries .. are those of members of the view": recorder p in the view at index i.
-fn endpoint_cross(b: &[u8], i: usize, labels: &[u8; limits::MAX_ENTRIES], p: usize) -> bool
-    requires { ⌜ LabelledView (now b) (now labels) i × ((1 ≤ p) × (p ≤ sizeAt (now b))) ⌝ }
+fn endpoint_cross(b: &[u8], i: usize, unnamed: &[u8; MESSAGES], p: usize) -> bool
+    requires { ⌜ LabelledView (now b) (now unnamed) i × ((1 ≤ p) × (p ≤ sizeAt (now b))) ⌝ }
     ensures { λ r. ⌜ r ≡ endpointCross (raw (now (b .entry))) (viewAt (now (b .entry)) i) p ⌝ }
 {
     let at = layout::NETWORK + (p - 1) * layout::ROW + i * layout::ENDPOINT;
     let sent = is_sent(b, p, i);
     if is_member(b[0], view_set(b, i), p) {
-        names_all(b, at, labels, sent) & names_summary(b, at, labels)
+        names_all(b, at, unnamed, sent) & names_summary(b, at, unnamed)
     } else {
         (b[at] == 0) & !sent
     }
 }
 
 // The same for recorders 1 to n.
-fn endpoints_cross(b: &[u8], i: usize, labels: &[u8; limits::MAX_ENTRIES], n: usize) -> bool
-    requires { ⌜ LabelledView (now b) (now labels) i × (n ≡ sizeAt (now b)) ⌝ }
+fn endpoints_cross(b: &[u8], i: usize, unnamed: &[u8; MESSAGES], n: usize) -> bool
+    requires { ⌜ LabelledView (now b) (now unnamed) i × (n ≡ sizeAt (now b)) ⌝ }
     ensures { λ r. ⌜ r ≡ all (endpointCross (raw (now (b .entry))) (viewAt (now (b .entry)) i)) (upTo n) ⌝ }
 {
     let mut j = 0;
     while j < n {
-        if !endpoint_cross(b, i, labels, j + 1) {
+        if !endpoint_cross(b, i, unnamed, j + 1) {
             return false;
         }
         j += 1;
@@ -293,22 +300,22 @@ fn endpoints_cross(b: &[u8], i: usize, labels: &[u8; limits::MAX_ENTRIES], n: us
 }
 
 // The rules of the view at index i.
-fn view_cross(b: &[u8], labels: &[u8; limits::MAX_ENTRIES], i: usize) -> bool
-    requires { ⌜ LabelledView (now b) (now labels) i ⌝ }
+fn view_cross(b: &[u8], unnamed: &[u8; MESSAGES], i: usize) -> bool
+    requires { ⌜ LabelledView (now b) (now unnamed) i ⌝ }
     ensures { λ r. ⌜ r ≡ viewCross (raw (now (b .entry))) (viewAt (now (b .entry)) i) ⌝ }
 {
     let n = b[0] as usize;
-    names_queue(b, i, labels) & endpoints_cross(b, i, labels, n)
+    names_queue(b, i, unnamed) & endpoints_cross(b, i, unnamed, n)
 }
 
 // The rules of the m views.
-fn views_cross(b: &[u8], labels: &[u8; limits::MAX_ENTRIES], m: usize) -> bool
-    requires { ⌜ Labelled (now b) (now labels) × (m ≡ viewCount (now b)) ⌝ }
+fn views_cross(b: &[u8], unnamed: &[u8; MESSAGES], m: usize) -> bool
+    requires { ⌜ Labelled (now b) (now unnamed) × (m ≡ viewCount (now b)) ⌝ }
     ensures { λ r. ⌜ r ≡ all (viewCross (raw (now (b .entry)))) (viewNumbers m viewCells (now (b .entry))) ⌝ }
 {
     let mut i = 0;
     while i < m {
-        if !view_cross(b, labels, i) {
+        if !view_cross(b, unnamed, i) {
             return false;
         }
         i += 1;
@@ -325,8 +332,8 @@ fn in_view(n: u8, set: u8, g: u32, r: usize) -> bool
 }
 
 // "Every list or set names only labelled entries", and heard and safe sources: recorder r.
-fn recorder_cross(b: &[u8], labels: &[u8; limits::MAX_ENTRIES], r: usize) -> bool
-    requires { ⌜ Labelled (now b) (now labels) × ((1 ≤ r) × (r ≤ sizeAt (now b))) ⌝ }
+fn recorder_cross(b: &[u8], unnamed: &[u8; MESSAGES], r: usize) -> bool
+    requires { ⌜ Labelled (now b) (now unnamed) × ((1 ≤ r) × (r ≤ sizeAt (now b))) ⌝ }
     ensures { λ t. ⌜ t ≡ recorderCross (raw (now (b .entry))) r ⌝ }
 {
     let at = layout::RECORDERS + (r - 1) * layout::RECORDER;
@@ -334,22 +341,22 @@ fn recorder_cross(b: &[u8], labels: &[u8; limits::MAX_ENTRIES], r: usize) -> boo
     let i = ranges::find_view(b, b[layout::VIEW_COUNT] as usize, g);
     let set = view_set(b, i);
     in_view(b[0], set, g, r)
-        & names_set(b, at + layout::RECORDER_KNOWN, labels)
-        & names_all(b, at + layout::RECORDER_BUFFER, labels, false)
-        & names_all(b, at + layout::RECORDER_ORDER, labels, false)
-        & names_set(b, at + layout::RECORDER_SAFE, labels)
+        & names_set(b, at + layout::RECORDER_KNOWN, unnamed)
+        & names_all(b, at + layout::RECORDER_BUFFER, unnamed, false)
+        & names_all(b, at + layout::RECORDER_ORDER, unnamed, false)
+        & names_set(b, at + layout::RECORDER_SAFE, unnamed)
         & heard_all(b, at + layout::RECORDER_HEARD, set, i)
         & source_all(b, at + layout::RECORDER_SAFE_SOURCES, set)
 }
 
 // The same for recorders 1 to n.
-fn recorders_cross(b: &[u8], labels: &[u8; limits::MAX_ENTRIES], n: usize) -> bool
-    requires { ⌜ Labelled (now b) (now labels) × (n ≡ sizeAt (now b)) ⌝ }
+fn recorders_cross(b: &[u8], unnamed: &[u8; MESSAGES], n: usize) -> bool
+    requires { ⌜ Labelled (now b) (now unnamed) × (n ≡ sizeAt (now b)) ⌝ }
     ensures { λ t. ⌜ t ≡ all (recorderCross (raw (now (b .entry)))) (upTo n) ⌝ }
 {
     let mut j = 0;
     while j < n {
-        if !recorder_cross(b, labels, j + 1) {
+        if !recorder_cross(b, unnamed, j + 1) {
             return false;
         }
         j += 1;
@@ -362,11 +369,11 @@ fn cross_rules(b: &[u8]) -> bool
     requires { ⌜ Ranged (now b) ⌝ }
     ensures { λ r. ⌜ r ≡ crossRules (raw (now (b .entry))) ⌝ }
 {
-    let labels = labels_of(b);
+    let unnamed = unnamed_of(b);
     let n = b[0] as usize;
     let m = b[layout::VIEW_COUNT] as usize;
     let count = b[layout::ENTRY_COUNT] as usize;
-    labels_alone(b, count) & recorders_cross(b, &labels, n) & views_cross(b, &labels, m)
+    labels_alone(b, count) & recorders_cross(b, &unnamed, n) & views_cross(b, &unnamed, m)
 }
 
 // Are the first bytes of a slice a hall's stored form? (31.) Only these are read, and a shorter slice is none.

@@ -7,8 +7,8 @@ use borrow.Author.Needs.{needs}
 use Rattle.validity.proofs.cross_rules.Statement.{statement}
 use Rattle.validity.proofs.cross_rules.Tie as tie
 
-labels-of-requires : tie.Need-labels-of-requires
-labels-of-requires c κs = search needs
+unnamed-of-requires : tie.Need-unnamed-of-requires
+unnamed-of-requires c κs = search needs
 
 shared-slice-read-n : tie.Need-shared-slice-read-n
 shared-slice-read-n c = search needs
@@ -49,7 +49,7 @@ pub cross-rules-spec : {M : Type 1} → statement M
 cross-rules-spec =
     tie.close
     (tie.spec
-    labels-of-requires
+    unnamed-of-requires
     shared-slice-read-n
     cast-n
     shared-slice-read-m

@@ -56,7 +56,7 @@ returns c =
     let a = c .before .before .before .before .before .before .before .before .args in
     let h = c .before .before .before .before .before .before .before .before .pre in
     let b = now (a .b) in
-    let l = now (a .labels) in
+    let l = now (a .unnamed) in
     ap₂ _&&_ (c .before .names-all .ensures ∙ ap (λ (t : Bool). all (messageMarked l t) (listAt b (endpointOff (a .p) (a .i)))) (c .before .before .before .before .before .before .is-sent .ensures)) (c .names-summary .ensures)
     ∙ sym
     (endpoint-member b (h .0 .ranged .held) l (h .0 .labels) (a .i) (h .0 .formed) (a .p) (h .1 .0) (h .1 .1)
@@ -67,7 +67,7 @@ returns-2 c =
     let a = c .before .before .before .before .before .before .before .args in
     let h = c .before .before .before .before .before .before .before .pre in
     let b = now (a .b) in
-    let l = now (a .labels) in
+    let l = now (a .unnamed) in
     ap (λ (t : Bool). eqb (getD b (endpointOff (a .p) (a .i)) 0) 0 && not t) (c .before .before .before .before .before .is-sent .ensures)
     ∙ sym
     (endpoint-other b (h .0 .ranged .held) l (h .0 .labels) (a .i) (h .0 .formed) (a .p) (h .1 .0) (h .1 .1)

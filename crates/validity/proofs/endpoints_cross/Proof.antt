@@ -15,10 +15,10 @@ use Rattle.validity.proofs.endpoints_cross.Statement.{statement}
 use Rattle.validity.proofs.endpoints_cross.Tie as tie
 
 abbrev Inv-loop : tie.InvT-loop
-Inv-loop b i labels n j₀ j = (j ≤ n) × (all (endpointCross (raw b) (viewAt b i)) (upTo j) ≡ true)
+Inv-loop b i unnamed n j₀ j = (j ≤ n) × (all (endpointCross (raw b) (viewAt b i)) (upTo j) ≡ true)
 
 abbrev μ-loop : tie.MeasureT-loop
-μ-loop b i labels n j₀ j = n - j
+μ-loop b i unnamed n j₀ j = n - j
 
 loop-holds : tie.Need-loop-holds Inv-loop μ-loop
 loop-holds c =

@@ -19,13 +19,13 @@ use Rattle.validity.proofs.names_queue.Statement.{statement}
 use Rattle.validity.proofs.names_queue.Tie as tie
 
 abbrev Inv-loop : tie.InvT-loop
-Inv-loop b i labels at count j₀ j =
+Inv-loop b i unnamed at count j₀ j =
     (j ≤ getD b (queuesAt + i * queueSize) 0) × (getD b (queuesAt + i * queueSize) 0 ≤ maxQueue)
     × (queueNames (raw b) (viewAt b i) (raw b .service .queue (viewAt b i))
     ≡ queueNames (raw b) (viewAt b i) (decodeAll queuedForm (getD b (queuesAt + i * queueSize) 0 - j) (drop (queuesAt + i * queueSize + 1 + j * queuedSize) b)))
 
 abbrev μ-loop : tie.MeasureT-loop
-μ-loop b i labels at count j₀ j = getD b (queuesAt + i * queueSize) 0 - j
+μ-loop b i unnamed at count j₀ j = getD b (queuesAt + i * queueSize) 0 - j
 
 mul-at : tie.Need-mul-at Inv-loop μ-loop
 mul-at c = search needs
@@ -45,7 +45,7 @@ loop-holds c =
     let h = c .before .before .pre in (
       search needs,
       queue-count (now (a .b)) (h .ranged .held) (a .i) (h .formed),
-      queue-all (now (a .b)) (h .ranged .held) (now (a .labels)) (h .labels) (a .i) (h .formed),
+      queue-all (now (a .b)) (h .ranged .held) (now (a .unnamed)) (h .labels) (a .i) (h .formed),
     )
 
 add-names-queued : tie.Need-add-names-queued Inv-loop μ-loop
@@ -67,7 +67,7 @@ returns c =
     let b = now (a .b) in
     sym
     (c .before .before .before .loop .inv .2
-    ∙ queue-fail b (h .ranged .held) (now (a .labels)) (h .labels) (a .i) (h .formed) (queuesAt + a .i * queueSize + 1) (getD b (queuesAt + a .i * queueSize) 0) (c .before .before .before .loop .j) (c .before .before .loop-test .taken) (omega arith)
+    ∙ queue-fail b (h .ranged .held) (now (a .unnamed)) (h .labels) (a .i) (h .formed) (queuesAt + a .i * queueSize + 1) (getD b (queuesAt + a .i * queueSize) 0) (c .before .before .before .loop .j) (c .before .before .loop-test .taken) (omega arith)
     (sym (c .before .names-queued .ensures) ∙ not-true (c .before .names-queued .result) (c .if1 .taken)))
 
 add-j : tie.Need-add-j Inv-loop μ-loop
@@ -84,7 +84,7 @@ loop-again c =
       search needs,
       search needs,
       c .before .before .before .loop .inv .2
-          ∙ queue-next b (h .ranged .held) (now (a .labels)) (h .labels) (a .i) (h .formed) (queuesAt + a .i * queueSize + 1) (getD b (queuesAt + a .i * queueSize) 0) (c .before .before .before .loop .j) (c .before .before .loop-test .taken) (omega arith)
+          ∙ queue-next b (h .ranged .held) (now (a .unnamed)) (h .labels) (a .i) (h .formed) (queuesAt + a .i * queueSize + 1) (getD b (queuesAt + a .i * queueSize) 0) (c .before .before .before .loop .j) (c .before .before .loop-test .taken) (omega arith)
           (sym (c .before .names-queued .ensures) ∙ not-false (c .before .names-queued .result) (c .if1 .left)),
     )
 
@@ -95,7 +95,7 @@ returns-2 c =
     let b = now (a .b) in
     sym
     (c .before .loop .inv .2
-    ∙ queue-done b (h .ranged .held) (now (a .labels)) (h .labels) (a .i) (h .formed) (queuesAt + a .i * queueSize + 1) (getD b (queuesAt + a .i * queueSize) 0) (c .before .loop .j) (c .loop-test .left))
+    ∙ queue-done b (h .ranged .held) (now (a .unnamed)) (h .labels) (a .i) (h .formed) (queuesAt + a .i * queueSize + 1) (getD b (queuesAt + a .i * queueSize) 0) (c .before .loop .j) (c .loop-test .left))
 
 pub names-queue-spec : {M : Type 1} → statement M
 names-queue-spec =

@@ -49,9 +49,9 @@ returns c =
     let a = c .before .before .before .before .before .before .before .before .before .args in
     let b = now (a .b) in
     c .names-message .ensures
-    ∙ ap (λ (t : Bool). messageMarked (now (a .labels)) t (getD b (a .at + 1) 0)) (c .before .before .is-sent .ensures)
+    ∙ ap (λ (t : Bool). messageMarked (now (a .unnamed)) t (getD b (a .at + 1) 0)) (c .before .before .is-sent .ensures)
     ∙ sym
-    (queued-member (now (a .labels)) b (a .i) (a .at)
+    (queued-member (now (a .unnamed)) b (a .i) (a .at)
     (ap (λ (z : ℕ). has (members (sizeAt b) z) (getD b (a .at) 0)) (sym (c .before .before .before .before .before .view-set .ensures)) ∙ sym (c .before .before .before .before .is-member .ensures) ∙ c .before .before .before .if1 .taken))
 
 returns-2 : tie.Need-returns-2
@@ -60,7 +60,7 @@ returns-2 c =
     let b = now (a .b) in
     c .if1 .left
     ∙ sym
-    (queued-other (now (a .labels)) b (a .i) (a .at)
+    (queued-other (now (a .unnamed)) b (a .i) (a .at)
     (ap (λ (z : ℕ). has (members (sizeAt b) z) (getD b (a .at) 0)) (sym (c .before .before .view-set .ensures)) ∙ sym (c .before .is-member .ensures) ∙ c .if1 .left))
 
 pub names-queued-spec : {M : Type 1} → statement M

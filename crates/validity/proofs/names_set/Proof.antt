@@ -17,21 +17,24 @@ use Rattle.validity.proofs.names_set.Statement.{statement}
 use Rattle.validity.proofs.names_set.Tie as tie
 
 abbrev Inv-loop : tie.InvT-loop
-Inv-loop b at labels any₀ j₀ any j = (j ≤ maxEntries) × (eqb any 0 ≡ all (setOk labels b at) (upTo j))
+Inv-loop b at unnamed any₀ j₀ any j = (j ≤ maxEntries) × (eqb any 0 ≡ all (setOk unnamed b at) (upTo j))
 
 abbrev μ-loop : tie.MeasureT-loop
-μ-loop b at labels any₀ j₀ any j = maxEntries - j
+μ-loop b at unnamed any₀ j₀ any j = maxEntries - j
 
 loop-holds : tie.Need-loop-holds Inv-loop μ-loop
 loop-holds c =
     let a = c .before .args in
-    (search needs, sym (all-none (setOk (now (a .labels)) (now (a .b)) (a .at))))
+    (search needs, sym (all-none (setOk (now (a .unnamed)) (now (a .b)) (a .at))))
 
 add-lacks : tie.Need-add-lacks Inv-loop μ-loop
 add-lacks c = search needs
 
 shared-slice-read-lacks : tie.Need-shared-slice-read-lacks Inv-loop μ-loop
 shared-slice-read-lacks c = search needs
+
+add-lacks-2 : tie.Need-add-lacks-2 Inv-loop μ-loop
+add-lacks-2 c = search needs
 
 element-copy-out-lacks : tie.Need-element-copy-out-lacks Inv-loop μ-loop
 element-copy-out-lacks c = search needs
@@ -49,10 +52,10 @@ loop-again : tie.Need-loop-again Inv-loop μ-loop
 loop-again c =
     let a = c .before .before .before .before .before .before .args in
     let l = c .before .before .before .before .loop in
-    let p = setOk (now (a .labels)) (now (a .b)) (a .at) in (
+    let p = setOk (now (a .unnamed)) (now (a .b)) (a .at) in (
       search needs,
       or-zero (l .any) (c .lacks .result)
-          ∙ ap₂ _&&_ (l .inv .1) (c .lacks .ensures ∙ sym (set-at (now (a .labels)) (now (a .b)) (a .at) (l .j) (search needs)))
+          ∙ ap₂ _&&_ (l .inv .1) (c .lacks .ensures ∙ sym (set-at (now (a .unnamed)) (now (a .b)) (a .at) (l .j) (search needs)))
           ∙ sym (all-step p (l .j)),
     )
 
@@ -61,7 +64,7 @@ returns c =
     let a = c .before .before .before .args in
     let l = c .before .loop in
     let e : l .j ≡ maxEntries = omega arith in
-    l .inv .1 ∙ ap (λ (n : ℕ). all (setOk (now (a .labels)) (now (a .b)) (a .at)) (upTo n)) e
+    l .inv .1 ∙ ap (λ (n : ℕ). all (setOk (now (a .unnamed)) (now (a .b)) (a .at)) (upTo n)) e
 
 pub names-set-spec : {M : Type 1} → statement M
 names-set-spec =
@@ -72,6 +75,7 @@ names-set-spec =
     loop-holds
     add-lacks
     shared-slice-read-lacks
+    add-lacks-2
     element-copy-out-lacks
     lacks-requires
     add-j

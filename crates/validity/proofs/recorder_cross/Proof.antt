@@ -101,7 +101,7 @@ returns c =
     (ap₂ _&&_ (c .before .heard-all .ensures ∙ ap (λ (w : ℕ). all (heardOk b (at + recorderHeardAt) w i) (upTo maxRecorders)) s)
     (c .source-all .ensures ∙ ap (λ (w : ℕ). all (sourceOk b (at + recorderSafeSourcesAt) w) (upTo maxRecorders)) s)))))))
     ∙ sym
-    (recorder-cross b (h .0 .ranged .held) (now (a .labels)) (h .0 .labels) (a .r) (h .1 .0) (h .1 .1) i
+    (recorder-cross b (h .0 .ranged .held) (now (a .unnamed)) (h .0 .labels) (a .r) (h .1 .0) (h .1 .1) i
     (subst (λ (z : ℕ). Found (viewCount b) b z i) g (c .before .before .before .before .before .before .before .before .before .find-view .ensures)))
 
 pub recorder-cross-spec : {M : Type 1} → statement M

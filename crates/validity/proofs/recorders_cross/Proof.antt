@@ -14,10 +14,10 @@ use Rattle.validity.proofs.recorders_cross.Statement.{statement}
 use Rattle.validity.proofs.recorders_cross.Tie as tie
 
 abbrev Inv-loop : tie.InvT-loop
-Inv-loop b labels n j₀ j = (j ≤ n) × (all (recorderCross (raw b)) (upTo j) ≡ true)
+Inv-loop b unnamed n j₀ j = (j ≤ n) × (all (recorderCross (raw b)) (upTo j) ≡ true)
 
 abbrev μ-loop : tie.MeasureT-loop
-μ-loop b labels n j₀ j = n - j
+μ-loop b unnamed n j₀ j = n - j
 
 loop-holds : tie.Need-loop-holds Inv-loop μ-loop
 loop-holds c =

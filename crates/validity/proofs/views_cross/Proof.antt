@@ -13,10 +13,10 @@ use Rattle.validity.proofs.views_cross.Statement.{statement}
 use Rattle.validity.proofs.views_cross.Tie as tie
 
 abbrev Inv-loop : tie.InvT-loop
-Inv-loop b labels m i₀ i = (i ≤ m) × (all (viewCross (raw b)) (viewNumbers m 2 b) ≡ all (viewCross (raw b)) (viewsFrom m b i))
+Inv-loop b unnamed m i₀ i = (i ≤ m) × (all (viewCross (raw b)) (viewNumbers m 2 b) ≡ all (viewCross (raw b)) (viewsFrom m b i))
 
 abbrev μ-loop : tie.MeasureT-loop
-μ-loop b labels m i₀ i = m - i
+μ-loop b unnamed m i₀ i = m - i
 
 loop-holds : tie.Need-loop-holds Inv-loop μ-loop
 loop-holds c =
