@@ -29,7 +29,7 @@ module _ (p : ℕ → Bool) where
   all-append [] ys = refl
   all-append (x ∷ xs) ys = ap (λ (t : Bool). p x && t) (all-append xs ys) ∙ sym (and-assoc (p x) (all p xs) (all p ys))
 
-  all-at : (xs : List ℕ) (x : ℕ) → all p xs ≡ true → has xs x ≡ true → p x ≡ true
+  pub all-at : (xs : List ℕ) (x : ℕ) → all p xs ≡ true → has xs x ≡ true → p x ≡ true
   unfolding all has
   all-at [] x a h = absurd (false≢true h)
   all-at (y ∷ ys) x a h =

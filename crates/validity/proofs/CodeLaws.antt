@@ -1,8 +1,8 @@
 -- What the code's branches and loops go by, for the cross rules. Assumes nothing.
 use Prim.Native.Nat.{ℕ, zero, suc, _+_, _-_, _*_, _≤_, _<_}
 use native.Mathlib.Omega.{arith}
-use mathlib.Core.Path.{_≡_, refl, sym, ap, ap₂, _∙_}
-use mathlib.Core.Bool.{Bool, true, false, not, _&&_, _||_, or-true, and-assoc}
+use mathlib.Core.Path.{_≡_, refl, sym, ap, _∙_}
+use mathlib.Core.Bool.{Bool, true, false, not, _&&_}
 use mathlib.Core.List.{List}
 use lib.Dec.{eqb, leb, ltb}
 use lib.ListN.{length, getD, take, set, replicate, length-set, length-replicate, getD-replicate}
@@ -11,23 +11,21 @@ use borrow.Author.Tests.{eq-eqb, ne-eqb, eqb-true, eqb-false, ltb-true, ltb-fals
 use Rattle.base.specs.Lists.{bit, has}
 use Rattle.base.proofs.Bools.{by-cases}
 use Rattle.quorum.specs.Sets.{members}
-use Rattle.model.specs.Ordering.{isLabelled}
 use Rattle.model.specs.Hall.{maxEntries}
-use Rattle.codec.specs.Bytes.{Block, part}
+use Rattle.codec.specs.Bytes.{Block}
 use Rattle.codec.specs.Form.{guarded}
-use Rattle.codec.specs.Number.{value}
 use Rattle.codec.specs.Slice.{Held, holds, valueOf}
 use Rattle.codec.proofs.BytesLaws.{block-part}
 use Rattle.codec.proofs.SliceLaws.{areBytes-of}
-use Rattle.store.specs.Layout.{storedLength, numberSize, entryLabelAt, entrySequenceAt, entrySize, entryCells}
+use Rattle.store.specs.Layout.{storedLength, entrySequenceAt, entrySize, entryCells}
 use Rattle.store.specs.Valid.{labelledEntry, crossRules}
 use Rattle.store.specs.HallForm.{hallFields, hallForm}
 use Rattle.store.specs.StoredForm.{isStored}
 use Rattle.validity.specs.Marks.{byteValues, messagesFrom, messageMarked, sentAt}
 use Rattle.validity.specs.RawHall.{raw, sizeAt, entryCount, setAt}
-use Rattle.validity.specs.CrossParts.{Labels, queuedOk, apart}
+use Rattle.validity.specs.CrossParts.{Labels, queuedOk}
 use Rattle.validity.proofs.MarksLaws.{message-at, message-past, bit-zero}
-use Rattle.validity.proofs.CrossPartsLaws.{sender-at, view-at, seq-at, labelled-at, unlabelled, named-summary, named-entry}
+use Rattle.validity.proofs.CrossPartsLaws.{labelled-at, unlabelled, named-summary, named-entry}
 
 -- ## The table of messages
 
@@ -173,36 +171,6 @@ table-done b t K f sent (suc e) =
     unused u =
         let k = leb-false (suc e) (entryCount b) u in
         mark-ahead b (entryCount b) sent (suc e) k ∙ sym (unlabelled b K (suc e) (λ g. k))
-
--- two entries: the same, or the first without a label, or by the three parts of the label
-module _ (b : List ℕ) (K : Held hallFields b) (d e : ℕ) (dl : 1 ≤ d) (du : d ≤ entryCount b) (el : 1 ≤ e) (eu : e ≤ entryCount b) where
-  pub apart-same : d ≡ e → apart (raw b .entries) d e ≡ true
-  unfolding apart
-  apart-same h = rw (eq-eqb d e h)
-
-  by-bytes : apart (raw b .entries) d e
-      ≡ (eqb d e || (not (not (eqb (getD b (entryCells + (d - 1) * entrySize + entrySequenceAt) 0) 0))
-      || not (eqb (value (part (entryCells + (d - 1) * entrySize + entryLabelAt) numberSize b)) (value (part (entryCells + (e - 1) * entrySize + entryLabelAt) numberSize b))
-      && (eqb (getD b (entryCells + (d - 1) * entrySize + entrySequenceAt) 0) (getD b (entryCells + (e - 1) * entrySize + entrySequenceAt) 0) && eqb (getD b (entryCells + (d - 1) * entrySize) 0) (getD b (entryCells + (e - 1) * entrySize) 0)))))
-  unfolding apart isLabelled
-  by-bytes =
-      ap₂ (λ (s t : Bool). eqb d e || (not (not s) || not t)) (ap (λ (k : ℕ). eqb k 0) (seq-at b K d dl du))
-      (ap₂ _&&_ (ap₂ eqb (view-at b K d dl du) (view-at b K e el eu))
-      (ap₂ _&&_ (ap₂ eqb (seq-at b K d dl du) (seq-at b K e el eu)) (ap₂ eqb (sender-at b K d dl du) (sender-at b K e el eu))))
-
-  pub apart-none : getD b (entryCells + (d - 1) * entrySize + entrySequenceAt) 0 ≡ 0 → apart (raw b .entries) d e ≡ true
-  apart-none h = by-bytes ∙ rw (eq-eqb (getD b (entryCells + (d - 1) * entrySize + entrySequenceAt) 0) 0 h) (or-true (eqb d e))
-
-  -- as the code has it: v and w are the view numbers that it reads
-  pub apart-labels : (v w : ℕ) → v ≡ value (part (entryCells + (d - 1) * entrySize + entryLabelAt) numberSize b) → w ≡ value (part (entryCells + (e - 1) * entrySize + entryLabelAt) numberSize b)
-      → (d ≡ e → ⊥) → (getD b (entryCells + (d - 1) * entrySize + entrySequenceAt) 0 ≡ 0 → ⊥)
-      → not (eqb v w && eqb (getD b (entryCells + (d - 1) * entrySize + entrySequenceAt) 0) (getD b (entryCells + (e - 1) * entrySize + entrySequenceAt) 0) && eqb (getD b (entryCells + (d - 1) * entrySize) 0) (getD b (entryCells + (e - 1) * entrySize) 0))
-      ≡ apart (raw b .entries) d e
-  apart-labels v w p q h k =
-      let s = eqb (getD b (entryCells + (d - 1) * entrySize + entrySequenceAt) 0) (getD b (entryCells + (e - 1) * entrySize + entrySequenceAt) 0) in
-      let t = eqb (getD b (entryCells + (d - 1) * entrySize) 0) (getD b (entryCells + (e - 1) * entrySize) 0) in
-      ap not (and-assoc (eqb v w) s t ∙ ap₂ (λ (x y : ℕ). eqb x y && (s && t)) p q)
-      ∙ sym (by-bytes ∙ rw (ne-eqb d e h, ne-eqb (getD b (entryCells + (d - 1) * entrySize + entrySequenceAt) 0) 0 k))
 
 -- ## Queued messages
 

@@ -5,3 +5,4 @@ pub mod MarksLaws
 pub mod RawHallLaws
 pub mod AllsLaws
 pub mod Values
+pub mod KeyLaws

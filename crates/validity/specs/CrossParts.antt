@@ -1,5 +1,5 @@
 -- The cross rules of the hall that bytes in range hold, as the code tests them. Assumes nothing.
-use Prim.Native.Nat.{ℕ, _+_, _<_}
+use Prim.Native.Nat.{ℕ, _+_, _-_, _*_, _<_}
 use mathlib.Core.Path.{_≡_}
 use mathlib.Core.Bool.{Bool, true, false, not, _&&_, _||_}
 use mathlib.Core.List.{List}
@@ -10,10 +10,12 @@ use Rattle.base.specs.Numbers.{upTo}
 use Rattle.quorum.specs.Sets.{members}
 use Rattle.model.specs.Hall.{Entries, Hall, maxEntries}
 use Rattle.model.specs.Ordering.{isLabelled}
+use Rattle.codec.specs.Bytes.{part}
+use Rattle.codec.specs.Number.{value}
 use Rattle.codec.specs.ByteList.{listAt}
 use Rattle.store.specs.Valid.{labelledEntry, queueNames, endpointCross}
-use Rattle.store.specs.Layout.{summaryOrderAt, endpointSentAt, endpointSummaryAt}
-use Rattle.validity.specs.Marks.{messageMarked, sentAt, setOk}
+use Rattle.store.specs.Layout.{numberSize, entryLabelAt, entrySequenceAt, entrySize, entryCells, summaryOrderAt, endpointSentAt, endpointSummaryAt}
+use Rattle.validity.specs.Marks.{byteValues, messageMarked, sentAt, setOk}
 use Rattle.validity.specs.RawHall.{Ranged, raw, sizeAt, viewCount, setAt}
 
 -- the message x, 0 for the summary, is a labelled entry of es, or the summary is sent
@@ -56,6 +58,26 @@ apart es d e =
     eqb d e || (not (isLabelled es d)
     || not (eqb (es .labelView d) (es .labelView e)
     && (eqb (es .labelSeq d) (es .labelSeq e) && eqb (es .sender d) (es .sender e))))
+
+-- a label as one number: its view, its sequence number and its sender; without a label, i
+unfoldable pub keyOf : (view sequence sender i : ℕ) → ℕ
+keyOf view sequence sender i = elim (eqb sequence 0) [ true ↦ i | false ↦ (view * byteValues + sequence) * byteValues + sender ]
+
+-- that of the entry at index i
+abbrev pub labelKey : List ℕ → ℕ → ℕ
+labelKey b i =
+    keyOf (value (part (entryCells + i * entrySize + entryLabelAt) numberSize b))
+    (getD b (entryCells + i * entrySize + entrySequenceAt) 0)
+    (getD b (entryCells + i * entrySize) 0)
+    i
+
+-- ks has the keys of the first m entries
+abbrev pub Keys : List ℕ → ℕ → List ℕ → Type 0
+Keys b m ks = (i : ℕ) → i < m → getD ks i 0 ≡ labelKey b i
+
+-- the key at index i is none of those before it
+unfoldable pub keyAlone : List ℕ → ℕ → Bool
+keyAlone ks i = all (λ e. not (eqb (getD ks (e - 1) 0) (getD ks i 0))) (upTo i)
 
 -- ## The whole
 

@@ -17,7 +17,8 @@ ghost use Rattle.ranges.specs.TableParts.{viewNumbers, viewAt};
 ghost use Rattle.validity.specs.Marks.{messagesFrom, messageMarked, sentAt, setOk, sourceOk, heardOk};
 ghost use Rattle.validity.specs.RawHall.{Ranged, raw, sizeAt, viewCount, entryCount, setAt};
 ghost use Rattle.validity.specs.CrossParts.{Labels, Labelled, LabelledView};
-ghost use Rattle.validity.specs.CrossParts.{queuedOk, summaryOk, apart, queueCross, viewCross};
+ghost use Rattle.validity.specs.CrossParts.{apart, keyOf, Keys, keyAlone};
+ghost use Rattle.validity.specs.CrossParts.{queuedOk, summaryOk, queueCross, viewCross};
 use model::limits;
 use quorum::in_mask;
 use store::layout;
@@ -176,39 +177,54 @@ fn unnamed_of(b: &[u8]) -> [u8; MESSAGES]
     unnamed
 }
 
-// Is entry d the same as e, without a label, or with another label?
-fn label_apart(b: &[u8], d: usize, e: usize) -> bool
-    requires { ⌜ Ranged (now b) × ((1 ≤ d) × (d ≤ entryCount (now b)) × (1 ≤ e) × (e ≤ entryCount (now b))) ⌝ }
-    ensures { λ r. ⌜ r ≡ apart (raw (now (b .entry)) .entries) d e ⌝ }
+// A label as one number: its view, its sequence number and its sender. Without a label (sequence number 0), i, which no
+// label has.
+fn label_key(view: u32, sequence: u8, sender: u8, i: usize) -> u64
+    ensures { λ r. ⌜ r ≡ keyOf view sequence sender i ⌝ }
 {
-    let x = layout::ENTRIES + (d - 1) * layout::ENTRY;
-    let y = layout::ENTRIES + (e - 1) * layout::ENTRY;
-    if d == e {
-        return true;
+    if sequence == 0 {
+        i as u64
+    } else {
+        (view as u64 * 256 + sequence as u64) * 256 + sender as u64
     }
-    if b[x + layout::ENTRY_SEQUENCE] == 0 {
-        return true;
-    }
-    let same_view = codec::get_u32(b, x + layout::ENTRY_LABEL)
-        == codec::get_u32(b, y + layout::ENTRY_LABEL);
-    let same_number = b[x + layout::ENTRY_SEQUENCE] == b[y + layout::ENTRY_SEQUENCE];
-    let same_sender = b[x] == b[y];
-    !(same_view & same_number & same_sender)
 }
 
-// Does entry d share its label with no other of the m entries?
-fn label_alone(b: &[u8], m: usize, d: usize) -> bool
-    requires { ⌜ Ranged (now b) × ((m ≡ entryCount (now b)) × (1 ≤ d) × (d ≤ m)) ⌝ }
-    ensures { λ r. ⌜ r ≡ all (apart (raw (now (b .entry)) .entries) d) (upTo m) ⌝ }
+// The keys of the m entries: two are the same just if the entries share a label.
+fn keys_of(b: &[u8], m: usize) -> [u64; limits::MAX_ENTRIES]
+    requires { ⌜ Ranged (now b) × (m ≡ entryCount (now b)) ⌝ }
+    ensures { λ r. ⌜ Keys (now (b .entry)) m r ⌝ }
 {
+    let mut keys = [0u64; limits::MAX_ENTRIES];
+    let mut i = 0;
+    while i < m {
+        let at = layout::ENTRIES + i * layout::ENTRY;
+        let view = codec::get_u32(b, at + layout::ENTRY_LABEL);
+        keys[i] = label_key(view, b[at + layout::ENTRY_SEQUENCE], b[at], i);
+        i += 1;
+    }
+    keys
+}
+
+// 1 for two equal keys, else 0.
+fn same(x: u64, y: u64) -> u64
+    ensures { λ r. ⌜ eqb r 0 ≡ not (eqb x y) ⌝ }
+{
+    if x == y { 1 } else { 0 }
+}
+
+// Does the entry at index i have a key that none before it has?
+fn key_alone(keys: &[u64; limits::MAX_ENTRIES], i: usize) -> bool
+    requires { ⌜ i < maxEntries ⌝ }
+    ensures { λ r. ⌜ r ≡ keyAlone (now (keys .entry)) i ⌝ }
+{
+    let key = keys[i];
+    let mut any: u64 = 0;
     let mut j = 0;
-    while j < m {
-        if !label_apart(b, d, j + 1) {
-            return false;
-        }
+    while j < i {
+        any = any | same(keys[j], key);
         j += 1;
     }
-    true
+    any == 0
 }
 
 // "No two entries share one."
@@ -216,9 +232,10 @@ fn labels_alone(b: &[u8], m: usize) -> bool
     requires { ⌜ Ranged (now b) × (m ≡ entryCount (now b)) ⌝ }
     ensures { λ r. ⌜ r ≡ all (λ d. all (apart (raw (now (b .entry)) .entries) d) (upTo m)) (upTo m) ⌝ }
 {
+    let keys = keys_of(b, m);
     let mut j = 0;
     while j < m {
-        if !label_alone(b, m, j + 1) {
+        if !key_alone(&keys, j) {
             return false;
         }
         j += 1;
