@@ -1,5 +1,5 @@
 // Is a byte slice the stored form of a hall? Each field in its range (crate ranges), and the cross rules. The tests are
-// gathered by `&`: all are made, with no branch.
+// gathered by `&` and `|`: all are made, with no branch.
 ghost use mathlib.Core.Path.{_≡_};
 ghost use mathlib.Core.Bool.{not, _&&_, _||_};
 ghost use Prim.Native.Nat.{_+_, _-_, _*_, _≤_, _<_};
@@ -26,11 +26,11 @@ use store::layout;
 // How many values a byte has.
 const BYTES: usize = 256;
 
-// How many messages the table of those not named has: each byte, of a source that did not send its summary and of one
-// that did.
+// How many places the table `unnamed` has: one for each byte as a message of a source that did not send its summary,
+// and one for each as a message of a source that did. It has 0 for a labelled entry and a summary that was sent, else 1.
 const MESSAGES: usize = 2 * BYTES;
 
-// Where the messages of a source begin in the table.
+// Where the messages of a source begin in the table: those of one that did not send its summary come first.
 fn messages_from(sent: bool) -> usize
     ensures { λ r. ⌜ r ≡ messagesFrom sent ⌝ }
 {
@@ -158,7 +158,7 @@ fn view_set(b: &[u8], i: usize) -> u8
     }
 }
 
-// The table of the messages that are not named: 0 for a labelled entry and for a summary that was sent, else 1.
+// The table of the messages that are not named.
 fn unnamed_of(b: &[u8]) -> [u8; MESSAGES]
     requires { ⌜ Ranged (now b) ⌝ }
     ensures { λ r. ⌜ Labels (raw (now (b .entry)) .entries) r ⌝ }
