@@ -27,7 +27,7 @@ use store::layout;
 const BYTES: usize = 256;
 
 // How many places the table `unnamed` has: one for each byte as a message of a source that did not send its summary,
-// and one for each as a message of a source that did. It has 0 for a labelled entry and a summary that was sent, else 1.
+// and one for each as a message of a source that did. It has 0 for a labelled entry and a sent summary, else 1.
 const MESSAGES: usize = 2 * BYTES;
 
 // Where the messages of a source begin in the table: those of one that did not send its summary come first.
