@@ -47,6 +47,15 @@ performed h notice r a d = message-number (toNotice h r .source) (actions.conten
 performed h confirm r a d = refl
 performed h deliver r a d = refl
 
+-- a kind's number is that of its refusal
+pub kind-number : (b : List ℕ) (κ : Kind) (r a d : ℕ) → plain (kindOn b κ r a d .answer) .number ≡ stateRefusal hl3 (hallOf b) κ r a
+unfolding kindOn plain
+kind-number b κ r a d =
+    by-cases (eqb why 0) (λ t. rw (t, kindOn) (performed (hallOf b) κ r a d ∙ sym (eqb-true why 0 t))) (λ t. rw (t, kindOn) refl)
+  where
+    why : ℕ
+    why = stateRefusal hl3 (hallOf b) κ r a
+
 -- an outcome that leaves b if it is refused
 abbrev KeepsBytes : List ℕ → Outcome → Type 0
 KeepsBytes b o = Keeps (plain (o .answer) .number) b (o .bytes)
