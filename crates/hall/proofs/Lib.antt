@@ -10,3 +10,4 @@ pub mod Changes
 pub mod ViewsLaws
 pub mod Heads
 pub mod Appending
+pub mod ListFields
