@@ -1,9 +1,5 @@
 // Calls on a hall that return their number and write their answer's values into a lent slice (`lent`): a page and a step.
 ghost use mathlib.Core.Path.{_≡_};
-ghost use mathlib.Core.List.{List};
-ghost use Prim.Native.Nat.{ℕ, _≤_, _<_};
-ghost use lib.ListN.{length};
-ghost use Rattle.store.specs.Layout.{storedLength};
 ghost use Rattle.base.specs.Chains.{_⨾_};
 ghost use Rattle.model.specs.Answers as model;
 ghost use Rattle.model.specs.Call.{wordsOf};
@@ -11,14 +7,13 @@ ghost use Rattle.calls.specs.Calls.{stepOn};
 ghost use Rattle.calls.specs.Lent.{stepLent, pageLent, Leaves};
 use answer::plain;
 use answer::plain_page;
-use codec::put_bytes;
 use lent::ANSWER;
 use lent::answer_into;
 use lent::put_values;
 use model::refusals;
 use page::page;
+use step::refusal;
 use step::step;
-use store::layout;
 
 // The page of recorder r with place k of its order, its fields written into a lent slice.
 pub fn page_into(hall: &[u8], r: u32, k: u32, out: &mut [u8]) -> u32
@@ -40,34 +35,11 @@ fn or_no_room(number: u32) -> u32
     if number == 0 { refusals::SHORT } else { number }
 }
 
-// The number of a step on a slice that is too short for a hall.
-fn try_short(k: u32, r: u32, a: u32, b: u32) -> u32
-    ensures { λ n. ⌜ ((hall : List ℕ) → length hall < storedLength
-        → n ≡ model.plain (stepOn hall (wordsOf k r a b) .answer) .number) ⌝ }
-{
-    let mut none = [0u8; 1];
-    plain(step(&mut none, k, r, a, b)).number
-}
-
-// The number of a step on a slice that is long enough, tried on a copy: nothing is changed.
-fn try_copy(hall: &[u8], k: u32, r: u32, a: u32, b: u32) -> u32
-    requires { ⌜ storedLength ≤ length (now hall) ⌝ }
-    ensures { λ n. ⌜ n ≡ model.plain (stepOn (now (hall .entry)) (wordsOf k r a b) .answer) .number ⌝ }
-{
-    let mut copy = [0u8; layout::LENGTH];
-    put_bytes(&mut copy, 0, hall, layout::LENGTH);
-    plain(step(&mut copy, k, r, a, b)).number
-}
-
-// The number of a step whose answer has no room.
+// The number of a step whose answer has no room: nothing is performed.
 fn try_step(hall: &[u8], k: u32, r: u32, a: u32, b: u32) -> u32
     ensures { λ n. ⌜ n ≡ model.plain (stepOn (now (hall .entry)) (wordsOf k r a b) .answer) .number ⨾ 18 ⌝ }
 {
-    if hall.len() < layout::LENGTH {
-        or_no_room(try_short(k, r, a, b))
-    } else {
-        or_no_room(try_copy(hall, k, r, a, b))
-    }
+    or_no_room(refusal(hall, k, r, a, b))
 }
 
 // A step, its answer's values written into a lent slice.

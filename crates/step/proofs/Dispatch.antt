@@ -11,7 +11,7 @@ use Rattle.model.specs.Kinds.{Use, unused, word, recorder, number, set, Kind, u
 use Rattle.store.specs.StoredForm.{hallOf}
 use Rattle.answer.specs.declared.Answer.{Answer}
 use Rattle.words.specs.Words.{kindAt}
-use Rattle.hall.specs.Acts.{Judged, Does}
+use Rattle.hall.specs.Acts.{Judged, numberOn, Does}
 
 -- the word that a kind's call is made with: 0 where it is unused
 unfoldable pub asUsed : Use → ℕ → ℕ
@@ -43,6 +43,7 @@ pub record Turned (bs : List ℕ) (k r a b : ℕ) (κ : Kind) : Type 0 where
   pub judged : Judged bs κ (asUsed (uses κ .r) r) (asUsed (uses κ .a) a) (asUsed (uses κ .b) b)
   pub done : (x : Answer) (c : List ℕ) → Does bs κ (asUsed (uses κ .r) r) (asUsed (uses κ .a) a) (asUsed (uses κ .b) b) x c
       → Does bs (kindAt k) r a b x c
+  pub number : numberOn bs κ (asUsed (uses κ .r) r) (asUsed (uses κ .a) a) ≡ numberOn bs (kindAt k) r a
 
 module _ (bs : List ℕ) (k r a b : ℕ) (j : Judged bs (kindAt k) r a b) where
   turned : (κ : Kind) → kindAt k ≡ κ → Turned bs k r a b κ
@@ -59,6 +60,7 @@ module _ (bs : List ℕ) (k r a b : ℕ) (j : Judged bs (kindAt k) r a b) where
       record {
         judged = subst (λ z. z) (λ i. Judged bs (is i) (r-is i) (a-is i) (b-is i)) j;
         done = λ x c m. subst (λ z. z) (λ i. Does bs (sym is i) (sym r-is i) (sym a-is i) (sym b-is i) x c) m;
+        number = λ i. numberOn bs (sym is i) (sym r-is i) (sym a-is i);
       }
 
   -- the kind with number n

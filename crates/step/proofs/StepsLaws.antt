@@ -21,8 +21,9 @@ use Rattle.calls.specs.Calls.{Outcome, stepOn}
 use Rattle.calls.specs.Steps.{Steps}
 use Rattle.calls.specs.ByKind.{kindOn, give}
 use Rattle.calls.proofs.ByKindLaws.{actOn, step-by-kind}
+use Rattle.calls.proofs.Refused.{kind-number}
 use Rattle.words.specs.Words.{kindAt}
-use Rattle.hall.specs.Acts.{Judged, Does}
+use Rattle.hall.specs.Acts.{Judged, numberOn, Does}
 use Rattle.step.specs.Numbers.{kindNumber, bytesNumber}
 
 -- ## The kind's word
@@ -86,6 +87,11 @@ module _ (bs : List ℕ) (k r a b : ℕ) where
   gives : (o : Outcome) (x : Answer) (c : List ℕ) → stepOn bs (wordsOf k r a b) ≡ o → meaning x ≡ o .answer → c ≡ o .bytes → Steps bs k r a b x c
   gives o x c e p q = record { answer = p ∙ sym (ap (λ (z : Outcome). z .answer) e); bytes = q ∙ sym (ap (λ (z : Outcome). z .bytes) e) }
 
+  -- a step that refuses has its number
+  pub refused-number : {n : ℕ} {c : List ℕ} → Steps bs k r a b (Answer.Refused n) c → n ≡ model.plain (stepOn bs (wordsOf k r a b) .answer) .number
+  unfolding meaning model.plain
+  refused-number s = ap (λ (x : model.Answer). model.plain x .number) (s .answer)
+
   -- 11: "K is not 1 to 11"
   no-kind : kindOf k ≡ noKind → Steps bs k r a b (Answer.Refused 11) bs
   unfolding meaning by-kind
@@ -138,6 +144,12 @@ module _ (bs : List ℕ) (k r a b : ℕ) where
       unfolding judge
       acted x c j m =
           gives (kindOn bs (kindAt k) r a b) x c (is-act ∙ act-is true (eq-eqb _ 0 (j .words))) (m .answer) (m .bytes)
+
+      pub acted-number : Judged bs (kindAt k) r a b → (n : ℕ) → n ≡ numberOn bs (kindAt k) r a → n ≡ model.plain (stepOn bs (wordsOf k r a b) .answer) .number
+      unfolding judge numberOn
+      acted-number j n e =
+          e
+          ∙ sym (ap (λ (o : Outcome). model.plain (o .answer) .number) (is-act ∙ act-is true (eq-eqb _ 0 (j .words))) ∙ kind-number bs (kindAt k) r a b)
 
 -- ## 11 and 31 together
 
