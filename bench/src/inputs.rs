@@ -5,19 +5,21 @@ use compare::actions::{self, Weights};
 use compare::halls;
 use compare::library::Lent;
 use compare::random::Random;
+use reference::hall::{Entry, Label, Message, Phase, Queued, Recorder, Seat, Summary, View};
 use reference::runfile::MOST_ACTIONS;
 use reference::stored::{self, LENGTH};
-use reference::hall::{Entry, Label, Message, Phase, Queued, Recorder, Seat, Summary, View};
-use reference::{open, write_run_file, Hall};
+use reference::{open, write_run_file, Answer, Hall};
 
-/// An opening and as many actions as a run file takes.
+/// An opening and actions, at most as many as a run file takes.
 pub struct Run {
+    pub name: String,
     pub n: u32,
     pub founders: u32,
     pub actions: Vec<[u32; 4]>,
 }
 
 impl Run {
+    /// Random actions, as many as a run file takes.
     pub fn random(n: u32, seed: u64) -> Run {
         let mut random = Random::new("bench", seed);
         let mut hall = open(n, 0).expect("the opening is taken");
@@ -30,9 +32,35 @@ impl Run {
             actions.push(action);
         }
         Run {
+            name: format!("N = {n}"),
             n,
             founders: 0,
             actions,
+        }
+    }
+
+    /// A run of allowed actions at whose end all entries are delivered
+    /// everywhere: four views of all, 16 entries submitted in each. In each view
+    /// all that can go goes, in rounds; the first three are left before all has
+    /// gone, so that the next one takes up what was left.
+    pub fn settled() -> Run {
+        const LEFT_AFTER: usize = 610;
+        let mut going = Going::open();
+        for view in 1..=4 {
+            let begin = going.taken.len();
+            if view > 1 {
+                going.must([5, 0, view, 255]);
+                (1..=8).for_each(|r| going.must([6, r, view, 0]));
+            }
+            going.submit(16);
+            while going.round(view) && (view == 4 || going.taken.len() - begin < LEFT_AFTER) {}
+        }
+        assert!(going.hall.recorders.iter().all(|r| r.report == 65));
+        Run {
+            name: "settled".to_string(),
+            n: 8,
+            founders: 255,
+            actions: going.taken,
         }
     }
 
@@ -42,6 +70,94 @@ impl Run {
         let length = write_run_file(self.n, self.founders, &self.actions[..count], &mut bytes);
         bytes.truncate(length.expect("the run fits"));
         bytes
+    }
+}
+
+/// A hall of eight founders on its way, and the actions that were taken.
+struct Going {
+    hall: Hall,
+    taken: Vec<[u32; 4]>,
+}
+
+impl Going {
+    fn open() -> Going {
+        Going {
+            hall: open(8, 255).expect("the opening is taken"),
+            taken: Vec::new(),
+        }
+    }
+
+    /// Tries an action and says whether it is taken.
+    fn goes(&mut self, action: [u32; 4]) -> bool {
+        let [k, r, a, b] = action;
+        let goes = !matches!(self.hall.step(k, r, a, b), Answer::Refused(_));
+        if goes {
+            self.taken.push(action);
+        }
+        goes
+    }
+
+    fn must(&mut self, action: [u32; 4]) {
+        assert!(self.goes(action), "{action:?} is allowed");
+    }
+
+    /// So many entries, their senders by turns.
+    fn submit(&mut self, count: u32) {
+        let first = self.hall.entries.len() as u32;
+        (first..first + count).for_each(|e| self.must([1, e % 8 + 1, 1_000 + e, 0]));
+    }
+
+    /// Each kind at each recorder once; whether any was taken.
+    fn round(&mut self, view: u32) -> bool {
+        let before = self.taken.len();
+        for kind in [2, 3, 4, 7, 8, 9, 10, 11] {
+            for r in 1..=8 {
+                self.goes(on_view(kind, r, view));
+            }
+        }
+        self.taken.len() > before
+    }
+}
+
+/// The action of a kind at R; 6 and 7 name the view.
+fn on_view(kind: u32, r: u32, view: u32) -> [u32; 4] {
+    [kind, r, if matches!(kind, 6 | 7) { view } else { 0 }, 0]
+}
+
+/// A hall to be settled, and all actions that are tried on the way.
+pub struct Settle {
+    pub hall: Hall,
+    pub tries: Vec<[u32; 4]>,
+    pub taken: usize,
+}
+
+/// The longest settle of a hall reached from opening: 64 entries wait and all
+/// recorders have a new view before them. Each turn takes the first action that
+/// is not refused, in the order of kinds 6, 4, 3, 2, 7, 8, 9, 10, 11, lowest
+/// recorder first; it ends when none is left.
+pub fn longest_settle() -> Settle {
+    const ORDER: [u32; 9] = [6, 4, 3, 2, 7, 8, 9, 10, 11];
+    let mut going = Going::open();
+    going.submit(64);
+    going.must([5, 0, 2, 255]);
+    let hall = going.hall.clone();
+    let before = going.taken.len();
+    let turn: Vec<[u32; 4]> = ORDER
+        .iter()
+        .flat_map(|&kind| (1..=8).map(move |r| on_view(kind, r, 2)))
+        .collect();
+    let mut tries = Vec::new();
+    let mut found = true;
+    while found {
+        found = turn.iter().any(|&action| {
+            tries.push(action);
+            going.goes(action)
+        });
+    }
+    Settle {
+        hall,
+        tries,
+        taken: going.taken.len() - before,
     }
 }
 
@@ -59,6 +175,11 @@ fn snapshot(hall: &Hall) -> Snapshot {
         recorder,
         place: hall.recorder(recorder).order.len() as u32,
     }
+}
+
+/// A hall that was just opened for all recorders.
+pub fn empty_hall(n: u32) -> Snapshot {
+    snapshot(&open(n, 0).expect("the opening is taken"))
 }
 
 /// Halls along a run, evenly spread.

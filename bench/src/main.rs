@@ -1,238 +1,116 @@
-//! Times of the library beside those of plain Rust on the same inputs, in one
-//! run. `run` builds both for release and starts this program.
+//! The library beside plain Rust on the same inputs, in one run: times, and
+//! instructions by kind. `run` builds both for release and starts this program.
 //!
-//!     bench --replay PROGRAM --reference PROGRAM [--passes K]
+//!     bench --replay PROGRAM --reference PROGRAM [--passes K] [--compare FILE]
 //!
 //! Every time is the least of K passes, in which both sides take turns. The
-//! table goes to standard output, and notes to standard error.
+//! tables go to standard output, and notes to standard error. With --compare
+//! they have the figures of FILE, an earlier output, beside the new ones.
 
+mod count;
+mod earlier;
 mod inner;
 mod inputs;
 mod plain;
 mod programs;
 mod table;
+mod times;
 
-use compare::library::{self, Lent};
-use inputs::{Run, Snapshot};
-use reference::calls::{self, ANSWER_LENGTH};
-use reference::stored::{self, LENGTH};
+use earlier::Earlier;
+use inputs::Run;
 use std::env;
-use std::hint::black_box;
 use std::path::PathBuf;
-use table::{Row, Table};
+use std::process::exit;
+use table::{print_gone, Table, Unit};
 
-/// Halls taken along a run, and random ones.
-const HALLS: usize = 64;
+const USAGE: &str =
+    "usage: bench --replay PROGRAM --reference PROGRAM [--passes K] [--compare FILE]";
 
 struct Options {
     passes: u32,
     replay: PathBuf,
     reference: PathBuf,
+    compare: Option<PathBuf>,
+    /// What this program does under callgrind.
+    count: bool,
 }
 
-fn options() -> Options {
+fn options() -> Option<Options> {
     let mut options = Options {
         passes: 5,
         replay: PathBuf::new(),
         reference: PathBuf::new(),
+        compare: None,
+        count: false,
     };
     let mut words = env::args().skip(1);
-    while let (Some(word), Some(value)) = (words.next(), words.next()) {
+    while let Some(word) = words.next() {
         match word.as_str() {
-            "--passes" => options.passes = value.parse().expect("--passes takes a number"),
-            "--replay" => options.replay = value.into(),
-            "--reference" => options.reference = value.into(),
-            _ => panic!("{word} is no option"),
+            "--passes" => options.passes = words.next()?.parse().ok().filter(|&k| k > 0)?,
+            "--replay" => options.replay = words.next()?.into(),
+            "--reference" => options.reference = words.next()?.into(),
+            "--compare" => options.compare = Some(words.next()?.into()),
+            "--count" => options.count = true,
+            _ => return None,
         }
     }
-    options
+    Some(options)
 }
 
-/// A slice for the library, with a hall opened in it.
-fn opened(run: &Run) -> Lent {
-    let mut lent = Lent::new(&[0; LENGTH], LENGTH);
-    assert_eq!(library::open(&mut lent, run.n, run.founders), 0);
-    lent
+/// Ends the program with a message.
+fn fail(status: i32, message: &str) -> ! {
+    eprintln!("{message}");
+    exit(status)
 }
 
-/// The library's public step, over a whole run.
-fn library_steps(run: &Run) -> Vec<u8> {
-    let mut hall = opened(run);
-    let mut answer = Lent::new(&[0; ANSWER_LENGTH], ANSWER_LENGTH);
-    for &action in &run.actions {
-        black_box(library::step(&mut hall, action, &mut answer));
-    }
-    hall.area().to_vec()
-}
-
-/// The library's steps on bytes that are checked once, over a whole run.
-fn library_inner_steps(run: &Run) -> Vec<u8> {
-    let mut hall = opened(run).area().to_vec();
-    black_box(inner::steps(&mut hall, &run.actions));
-    hall
-}
-
-/// The second implementation on bytes: it reads them into a hall with all
-/// checks, steps, and writes them all.
-fn rust_steps(run: &Run) -> Vec<u8> {
-    let mut hall = vec![0; LENGTH];
-    assert_eq!(calls::open(&mut hall, run.n, run.founders), 0);
-    let mut answer = [0; ANSWER_LENGTH];
-    for &action in &run.actions {
-        black_box(calls::step(&mut hall, action, &mut answer));
-    }
-    hall
-}
-
-/// The least that Rust can do: the check in place, on the nearest of the halls
-/// along the run, and the step on a hall that is kept in memory.
-fn rust_least_steps(run: &Run, along: &[Snapshot]) -> Vec<u8> {
-    let mut hall = reference::open(run.n, run.founders).expect("the opening is taken");
-    let stride = run.actions.len().div_ceil(along.len());
-    for (place, &[k, r, a, b]) in run.actions.iter().enumerate() {
-        black_box(plain::is_hall(black_box(along[place / stride].lent.area())));
-        black_box(hall.step(k, r, a, b));
-    }
-    stored::form(&hall)
-}
-
-/// The second implementation on a hall in memory, without bytes or checks.
-fn rust_inner_steps(run: &Run) -> Vec<u8> {
-    let mut hall = reference::open(run.n, run.founders).expect("the opening is taken");
-    for &[k, r, a, b] in &run.actions {
-        black_box(hall.step(k, r, a, b));
-    }
-    stored::form(&hall)
-}
-
-fn step_rows(table: &mut Table, runs: &[Run]) {
+/// Prints the tables of instructions, one for each run.
+fn print_counts(runs: &[Run], earlier: &mut Option<Earlier>) {
+    let counts = match count::counted() {
+        Ok(Some(counts)) => counts,
+        Ok(None) => return eprintln!("valgrind is not there: no instructions are counted"),
+        Err(why) => fail(1, &format!("bench: {why}")),
+    };
+    let mut counts = counts.into_iter().peekable();
     for run in runs {
-        let wanted = rust_steps(run);
-        let along = inputs::along(run, HALLS);
-        assert_eq!(library_steps(run), wanted, "the last bytes differ");
-        assert_eq!(rust_inner_steps(run), wanted, "the last bytes differ");
-        let name = |what: &str| format!("step, N = {}{what}", run.n);
-        let calls = run.actions.len();
-        table.compare(
-            Row::new(name(": read, step, write"), calls),
-            || library_steps(run),
-            || rust_steps(run),
-        );
-        table.compare(
-            Row::new(name(": check in place, step in memory"), calls),
-            || library_steps(run),
-            || rust_least_steps(run, &along),
-        );
-        if inner::LINKED {
-            assert_eq!(library_inner_steps(run), wanted, "the last bytes differ");
-            table.compare(
-                Row::new(name(" without check: step in memory"), calls),
-                || library_inner_steps(run),
-                || rust_inner_steps(run),
-            );
+        let heading = format!("Inner step by kind, {}: instructions a call", run.name);
+        let mut table = Table::new(&heading, Unit::Instructions, 1);
+        let ending = format!(", {}", run.name);
+        while let Some(count) = counts.next_if(|count| count.name.ends_with(&ending)) {
+            table.add(count.name, count.library, count.rust);
         }
-    }
-}
-
-fn library_pages(snapshots: &mut [Snapshot]) -> u32 {
-    let mut page = Lent::new(&[0; ANSWER_LENGTH], ANSWER_LENGTH);
-    let mut numbers = 0;
-    for hall in snapshots {
-        numbers += library::page(&mut hall.lent, hall.recorder, hall.place, &mut page);
-    }
-    numbers
-}
-
-fn rust_pages(snapshots: &[Snapshot]) -> u32 {
-    let mut page = [0; ANSWER_LENGTH];
-    let pages = snapshots.iter();
-    pages
-        .map(|hall| calls::page(hall.lent.area(), hall.recorder, hall.place, &mut page))
-        .sum()
-}
-
-fn library_checks(snapshots: &[Snapshot]) -> u32 {
-    snapshots
-        .iter()
-        .map(|hall| inner::check(hall.lent.area()))
-        .sum()
-}
-
-/// The rows on the halls along a run: page, check, and a hash of the slice.
-fn slice_rows(table: &mut Table, name: &str, snapshots: &mut Vec<Snapshot>) {
-    let halls = snapshots.len();
-    assert_eq!(library_pages(snapshots), 0);
-    assert_eq!(rust_pages(snapshots), 0);
-    let rust_checks = |snapshots: &Vec<Snapshot>| {
-        let halls = snapshots.iter();
-        halls
-            .filter(|hall| plain::is_hall(hall.lent.area()))
-            .count()
-    };
-    let hashes = |snapshots: &Vec<Snapshot>| {
-        let halls = snapshots.iter();
-        halls.fold(0, |sum, hall| sum ^ plain::fnv1a(hall.lent.area()))
-    };
-    let row = |what: &str| Row::new(format!("{what}, {name}"), halls);
-    let shared = std::cell::RefCell::new(snapshots);
-    table.compare(
-        row("page: read, page"),
-        || library_pages(&mut shared.borrow_mut()),
-        || rust_pages(&shared.borrow()),
-    );
-    table.compare(
-        row("page: check in place alone"),
-        || library_pages(&mut shared.borrow_mut()),
-        || rust_checks(&shared.borrow()),
-    );
-    table.compare(
-        row("page beside FNV-1a"),
-        || library_pages(&mut shared.borrow_mut()),
-        || hashes(&shared.borrow()),
-    );
-    if inner::LINKED {
-        assert_eq!(library_checks(&shared.borrow()), 0);
-        table.compare(
-            row("check: check in place"),
-            || library_checks(&shared.borrow()),
-            || rust_checks(&shared.borrow()),
-        );
-        table.compare(
-            row("check beside FNV-1a"),
-            || library_checks(&shared.borrow()),
-            || hashes(&shared.borrow()),
-        );
+        table.print(earlier);
     }
 }
 
 fn main() {
-    let options = options();
-    let runs = [Run::random(3, 1), Run::random(8, 2)];
-    let mut along = inputs::along(&runs[1], HALLS);
-    let mut odd = inputs::odd_halls(3, HALLS);
-    let mut full = vec![inputs::full_hall()];
-    inputs::checks_agree(&along, &odd);
+    let Some(options) = options() else {
+        fail(2, USAGE)
+    };
+    let runs = [Run::random(3, 1), Run::random(8, 2), Run::settled()];
+    if options.count {
+        return count::parts(&runs);
+    }
+    let read = |file: &PathBuf| {
+        Earlier::read(file).unwrap_or_else(|why| fail(2, &format!("bench: {why}")))
+    };
+    let mut earlier = options.compare.as_ref().map(read);
 
     eprintln!("seeds 1 and 2 for runs of N = 3 and N = 8, 3 for random halls");
-    eprintln!(
-        "microseconds for each call; least of {} passes",
-        options.passes
-    );
-    let mut table = Table::new(options.passes);
-    step_rows(&mut table, &runs);
-    slice_rows(&mut table, "halls of a run", &mut along);
-    slice_rows(&mut table, "random halls", &mut odd);
-    slice_rows(&mut table, "a full hall", &mut full);
-    for actions in [500, 1_000, 2_000, 4_094] {
-        programs::row(
-            &mut table,
-            &options.replay,
-            &options.reference,
-            &runs[1],
-            actions,
-        );
+    eprintln!("times are the least of {} passes", options.passes);
+    let [three, eight, _] = &runs;
+    times::steps(options.passes, &[three, eight]).print(&mut earlier);
+    if inner::LINKED {
+        times::inner_steps(options.passes, &runs).print(&mut earlier);
+        times::longest_settle(options.passes).print(&mut earlier);
     }
-    if !inner::LINKED {
+    let [pages, checks] = times::pages_and_checks(options.passes, eight);
+    pages.print(&mut earlier);
+    checks.print(&mut earlier);
+    times::replays(options.passes, &options.replay, &options.reference, eight).print(&mut earlier);
+    if inner::LINKED {
+        print_counts(&runs, &mut earlier);
+    } else {
         eprintln!("not built: the library bench_api (check alone, step without check)");
     }
+    earlier.map(print_gone);
 }

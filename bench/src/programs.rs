@@ -2,7 +2,7 @@
 //! that reads a run file and writes its listing.
 
 use crate::inputs::Run;
-use crate::table::{Row, Table};
+use crate::table::Table;
 use std::fs::{self, File};
 use std::path::Path;
 use std::process::{Command, Stdio};
@@ -29,7 +29,8 @@ pub fn row(table: &mut Table, replay: &Path, reference: &Path, run: &Run, action
         "the listings differ"
     );
     table.compare(
-        Row::new(name, 1),
+        name,
+        1,
         || listing(replay, &file),
         || listing(reference, &file),
     );

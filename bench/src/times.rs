@@ -1,0 +1,280 @@
+//! The tables of times.
+
+use crate::inner;
+use crate::inputs::{self, Run, Snapshot};
+use crate::plain;
+use crate::programs;
+use crate::table::{Table, Unit};
+use compare::library::{self, Lent};
+use reference::calls::{self, ANSWER_LENGTH};
+use reference::stored::{self, LENGTH};
+use reference::{open, Hall};
+use std::cell::RefCell;
+use std::hint::black_box;
+use std::path::Path;
+
+/// Halls taken along a run, and random ones; calls in a pass on a single hall.
+const HALLS: usize = 64;
+
+/// A slice for the library, with a hall opened in it.
+fn opened(run: &Run) -> Lent {
+    let mut lent = Lent::new(&[0; LENGTH], LENGTH);
+    assert_eq!(library::open(&mut lent, run.n, run.founders), 0);
+    lent
+}
+
+/// The library's public step, over a whole run.
+fn library_steps(run: &Run) -> Vec<u8> {
+    let mut hall = opened(run);
+    let mut answer = Lent::new(&[0; ANSWER_LENGTH], ANSWER_LENGTH);
+    for &action in &run.actions {
+        black_box(library::step(&mut hall, action, &mut answer));
+    }
+    hall.area().to_vec()
+}
+
+/// The second implementation on bytes: it reads them into a hall with all
+/// checks, steps, and writes them all.
+fn rust_steps(run: &Run) -> Vec<u8> {
+    let mut hall = vec![0; LENGTH];
+    assert_eq!(calls::open(&mut hall, run.n, run.founders), 0);
+    let mut answer = [0; ANSWER_LENGTH];
+    for &action in &run.actions {
+        black_box(calls::step(&mut hall, action, &mut answer));
+    }
+    hall
+}
+
+/// The least that Rust can do: the check in place, on the nearest of the halls
+/// along the run, and the step on a hall that is kept in memory.
+fn rust_least_steps(run: &Run, along: &[Snapshot]) -> Vec<u8> {
+    let mut hall = open(run.n, run.founders).expect("the opening is taken");
+    let stride = run.actions.len().div_ceil(along.len());
+    for (place, &[k, r, a, b]) in run.actions.iter().enumerate() {
+        black_box(plain::is_hall(black_box(along[place / stride].lent.area())));
+        black_box(hall.step(k, r, a, b));
+    }
+    stored::form(&hall)
+}
+
+/// The second implementation on a hall in memory, without bytes or checks.
+fn rust_inner_steps(mut hall: Hall, actions: &[[u32; 4]]) -> Hall {
+    for &[k, r, a, b] in actions {
+        black_box(hall.step(k, r, a, b));
+    }
+    hall
+}
+
+/// Public steps.
+pub fn steps(passes: u32, runs: &[&Run]) -> Table {
+    let mut table = Table::new("Step: microseconds a call", Unit::Microseconds, passes);
+    for run in runs {
+        let wanted = rust_steps(run);
+        let along = inputs::along(run, HALLS);
+        assert_eq!(library_steps(run), wanted, "the last bytes differ");
+        let name = |what: &str| format!("step, {}: {what}", run.name);
+        let calls = run.actions.len();
+        table.compare(
+            name("read, step, write"),
+            calls,
+            || library_steps(run),
+            || rust_steps(run),
+        );
+        table.compare(
+            name("check in place, step in memory"),
+            calls,
+            || library_steps(run),
+            || rust_least_steps(run, &along),
+        );
+    }
+    table
+}
+
+/// Times the library's steps on bytes that are checked once beside steps in
+/// memory, from the same hall. Both sides begin with a copy of that hall.
+fn compare_inner(
+    table: &mut Table,
+    name: String,
+    calls: usize,
+    start: &Hall,
+    actions: &[[u32; 4]],
+) {
+    let bytes = stored::form(start);
+    let hall = RefCell::new(bytes.clone());
+    let steps = || {
+        let mut hall = hall.borrow_mut();
+        hall.copy_from_slice(&bytes);
+        inner::steps(&mut hall, black_box(actions))
+    };
+    assert_eq!(steps(), 0);
+    let wanted = stored::form(&rust_inner_steps(start.clone(), actions));
+    assert_eq!(*hall.borrow(), wanted, "the last bytes differ");
+    let rust = || rust_inner_steps(start.clone(), black_box(actions));
+    table.compare(name, calls, steps, rust);
+}
+
+/// Steps without a check.
+pub fn inner_steps(passes: u32, runs: &[Run]) -> Table {
+    let mut table = Table::new("Inner step: nanoseconds a call", Unit::Nanoseconds, passes);
+    for run in runs {
+        let start = open(run.n, run.founders).expect("the opening is taken");
+        let name = format!("step, {} without check: step in memory", run.name);
+        compare_inner(&mut table, name, run.actions.len(), &start, &run.actions);
+    }
+    table
+}
+
+/// All tries of the longest settle.
+pub fn longest_settle(passes: u32) -> Table {
+    let heading = "Longest settle: milliseconds for all tries";
+    let mut table = Table::new(heading, Unit::Milliseconds, passes);
+    let settle = inputs::longest_settle();
+    let (tries, taken) = (settle.tries.len(), settle.taken);
+    let name = format!("settle, {tries} tries, {taken} taken: step in memory");
+    compare_inner(&mut table, name, 1, &settle.hall, &settle.tries);
+    table
+}
+
+/// Halls that are timed one after another, so many times over in a pass.
+struct Halls {
+    name: &'static str,
+    halls: Vec<Snapshot>,
+    page: Lent,
+}
+
+impl Halls {
+    fn new(name: &'static str, halls: Vec<Snapshot>) -> Halls {
+        Halls {
+            name,
+            halls,
+            page: Lent::new(&[0; ANSWER_LENGTH], ANSWER_LENGTH),
+        }
+    }
+
+    fn calls(&self) -> usize {
+        HALLS.max(self.halls.len())
+    }
+
+    /// Which hall each call of a pass is on.
+    fn order(&self) -> impl Iterator<Item = usize> {
+        let count = self.halls.len();
+        (0..self.calls()).map(move |call| call % count)
+    }
+
+    /// The bytes of the halls, one for each call.
+    fn slices(&self) -> impl Iterator<Item = &[u8]> {
+        self.order().map(|i| black_box(self.halls[i].lent.area()))
+    }
+
+    fn library_pages(&mut self) -> u32 {
+        let mut numbers = 0;
+        for i in self.order() {
+            let hall = &mut self.halls[i];
+            numbers += library::page(&mut hall.lent, hall.recorder, hall.place, &mut self.page);
+        }
+        numbers
+    }
+
+    fn rust_pages(&self) -> u32 {
+        let mut page = [0; ANSWER_LENGTH];
+        let mut numbers = 0;
+        for i in self.order() {
+            let hall = &self.halls[i];
+            let bytes = black_box(hall.lent.area());
+            numbers += calls::page(bytes, hall.recorder, hall.place, &mut page);
+        }
+        numbers
+    }
+
+    fn library_checks(&self) -> u32 {
+        self.slices().map(inner::check).sum()
+    }
+
+    fn rust_checks(&self) -> usize {
+        self.slices().filter(|hall| plain::is_hall(hall)).count()
+    }
+
+    fn hashes(&self) -> u64 {
+        self.slices().fold(0, |sum, hall| sum ^ plain::fnv1a(hall))
+    }
+
+    fn page_rows(&mut self, table: &mut Table) {
+        assert_eq!(self.library_pages(), 0);
+        assert_eq!(self.rust_pages(), 0);
+        let (name, calls) = (self.name, self.calls());
+        let row = |what: &str| format!("{what}, {name}");
+        let halls = RefCell::new(self);
+        table.compare(
+            row("page: read, page"),
+            calls,
+            || halls.borrow_mut().library_pages(),
+            || halls.borrow().rust_pages(),
+        );
+        table.compare(
+            row("page: check in place alone"),
+            calls,
+            || halls.borrow_mut().library_pages(),
+            || halls.borrow().rust_checks(),
+        );
+        table.compare(
+            row("page beside FNV-1a"),
+            calls,
+            || halls.borrow_mut().library_pages(),
+            || halls.borrow().hashes(),
+        );
+    }
+
+    fn check_rows(&self, table: &mut Table) {
+        assert_eq!(self.library_checks(), 0);
+        assert_eq!(self.rust_checks(), self.calls());
+        let row = |what: &str| format!("{what}, {}", self.name);
+        table.compare(
+            row("check: check in place"),
+            self.calls(),
+            || self.library_checks(),
+            || self.rust_checks(),
+        );
+        table.compare(
+            row("check beside FNV-1a"),
+            self.calls(),
+            || self.library_checks(),
+            || self.hashes(),
+        );
+    }
+}
+
+/// Pages and checks of halls along a run, random halls, a full one and, for
+/// the check, empty ones.
+pub fn pages_and_checks(passes: u32, run: &Run) -> [Table; 2] {
+    let along = inputs::along(run, HALLS);
+    let random = inputs::odd_halls(3, HALLS);
+    inputs::checks_agree(&along, &random);
+    let mut halls = [
+        Halls::new("an empty hall, N = 3", vec![inputs::empty_hall(3)]),
+        Halls::new("an empty hall, N = 8", vec![inputs::empty_hall(8)]),
+        Halls::new("halls of a run", along),
+        Halls::new("random halls", random),
+        Halls::new("a full hall", vec![inputs::full_hall()]),
+    ];
+    let mut pages = Table::new("Page: microseconds a call", Unit::Microseconds, passes);
+    for halls in &mut halls[2..] {
+        halls.page_rows(&mut pages);
+    }
+    let mut checks = Table::new("Check: microseconds a call", Unit::Microseconds, passes);
+    if inner::LINKED {
+        for halls in &halls {
+            halls.check_rows(&mut checks);
+        }
+    }
+    [pages, checks]
+}
+
+/// Whole programs.
+pub fn replays(passes: u32, replay: &Path, reference: &Path, run: &Run) -> Table {
+    let heading = "Replay: microseconds for a whole program";
+    let mut table = Table::new(heading, Unit::Microseconds, passes);
+    for actions in [500, 1_000, 2_000, 4_094] {
+        programs::row(&mut table, replay, reference, run, actions);
+    }
+    table
+}
