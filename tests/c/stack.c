@@ -1,9 +1,9 @@
 /*
  * Measures how many bytes of stack each call takes: it runs in a thread whose
- * stack is painted before and looked at afterwards. None takes more than
+ * stack is painted before the call and looked at afterwards. None takes more than
  * HALL_STACK, and only a step 4,096 or more. The deepest is the last summary of
  * an exchange that leaves all entries to be put into order: one level of
- * recursion for each.
+ * recursion for each. Prints the most that each kind of call took.
  *
  * The last line is 'N passed, M failed'.
  */
@@ -15,7 +15,7 @@
 #include <stdlib.h>
 #include <string.h>
 
-enum { AREA = 1 << 20, PAINT = 0xa5, SMALL = 4095 };
+enum { AREA = 1 << 20, PAINT = 0xa5, MARGIN = 256, SMALL = 4095 };
 
 static uint8_t hall[HALL_LENGTH];
 static uint8_t answer[HALL_ANSWER_LENGTH];
@@ -26,10 +26,6 @@ static uint32_t actions[4 * HALL_MAX_ACTIONS];
 static uint32_t words[4];
 static size_t room;
 static uint32_t number;
-
-static void nothing(void)
-{
-}
 
 static void open_hall(void)
 {
@@ -67,53 +63,116 @@ static void fail(const char *what)
     exit(2);
 }
 
+/* A call to make, the memory of the thread's stack, and what the call took. */
 struct call {
     void (*function)(void);
+    uint8_t *area;
+    size_t bytes;
 };
 
-static void *run(void *call)
+/* Paints the stack below, makes the call, and looks how far it was written.
+ * What lies within MARGIN is this function's own, and that of painting. */
+static void *run(void *given)
 {
-    ((struct call *)call)->function();
+    struct call *call = given;
+    uint8_t mark = 0;
+    size_t below = (size_t)((uintptr_t)&mark - (uintptr_t)call->area);
+    size_t clean = 0;
+    memset(call->area, PAINT, below - MARGIN);
+    call->function();
+    while (clean < below - MARGIN && call->area[clean] == PAINT) {
+        clean++;
+    }
+    call->bytes = below - clean;
     return NULL;
 }
 
-/* How many bytes at the top of a thread's stack a call has written. */
+/* How many bytes of a thread's stack a call takes, or MARGIN if it is less. */
 static size_t stack_of(void (*function)(void))
 {
-    struct call call = {function};
+    struct call call = {function, NULL, 0};
     pthread_attr_t attributes;
     pthread_t thread;
     void *area;
     if (posix_memalign(&area, 4096, AREA) != 0) {
         fail("no memory");
     }
-    memset(area, PAINT, AREA);
+    call.area = area;
     if (pthread_attr_init(&attributes) != 0 || pthread_attr_setstack(&attributes, area, AREA) != 0 ||
         pthread_create(&thread, &attributes, run, &call) != 0 || pthread_join(thread, NULL) != 0) {
         fail("no thread");
     }
-    size_t clean = 0;
-    while (clean < AREA && ((const uint8_t *)area)[clean] == PAINT) {
-        clean++;
-    }
     pthread_attr_destroy(&attributes);
     free(area);
-    return AREA - clean;
+    return call.bytes;
 }
 
-static size_t thread_itself;
-static size_t most;
 static unsigned passed;
 static unsigned failed;
+
+/* The calls by their names, and the most that those of a name took. */
+struct peak {
+    const char *name;
+    size_t bytes;
+};
+
+static struct peak peaks[] = {
+    {"open", 0},
+    {"1 submit", 0},
+    {"2 label", 0},
+    {"3 send an entry", 0},
+    {"4 send the summary", 0},
+    {"5 form", 0},
+    {"6 enter", 0},
+    {"7 place an entry", 0},
+    {"7 place the summary", 0},
+    {"8 receive an entry", 0},
+    {"8 receive the last summary", 0},
+    {"9 notice of an entry", 0},
+    {"9 notice of the summary", 0},
+    {"10 confirm", 0},
+    {"11 deliver", 0},
+    {"page of a full order", 0},
+    {"write a run", 0},
+    {"read a run", 0},
+    {"read an action", 0},
+};
+
+enum { PEAKS = sizeof peaks / sizeof peaks[0] };
+
+static void keep_peak(const char *name, size_t bytes)
+{
+    size_t i = 0;
+    while (i < PEAKS && strcmp(peaks[i].name, name) != 0) {
+        i++;
+    }
+    if (i == PEAKS) {
+        fail("a call without a name");
+    }
+    if (bytes > peaks[i].bytes) {
+        peaks[i].bytes = bytes;
+    }
+}
+
+static void print_peaks(void)
+{
+    size_t most = 0;
+    puts("bytes of stack, at most:");
+    for (size_t i = 0; i < PEAKS; i++) {
+        printf("%7lu %s\n", (unsigned long)peaks[i].bytes, peaks[i].name);
+        if (peaks[i].bytes > most) {
+            most = peaks[i].bytes;
+        }
+    }
+    printf("at most %lu bytes of stack\n", (unsigned long)most);
+}
 
 /* Makes a call, which gives the wanted number and takes no more stack than it
  * may. */
 static void measure(const char *name, void (*function)(void), uint32_t wanted, size_t limit)
 {
-    size_t bytes = stack_of(function) - thread_itself;
-    if (bytes > most) {
-        most = bytes;
-    }
+    size_t bytes = stack_of(function);
+    keep_peak(name, bytes);
     if (number == wanted && bytes <= limit) {
         passed++;
     } else {
@@ -133,32 +192,49 @@ static void step(const char *name, uint32_t k, uint32_t r, uint32_t a, uint32_t 
     measure(name, take_step, HALL_OK, HALL_STACK);
 }
 
+/* An entry on its whole way. */
+static void one_entry(void)
+{
+    step("1 submit", HALL_SUBMIT, 1, 7, 0);
+    step("2 label", HALL_LABEL, 1, 0, 0);
+    step("3 send an entry", HALL_SEND_ENTRY, 1, 0, 0);
+    step("7 place an entry", HALL_PLACE, 1, 1, 0);
+    step("8 receive an entry", HALL_RECEIVE, 1, 0, 0);
+    step("9 notice of an entry", HALL_SAFE, 1, 0, 0);
+    step("10 confirm", HALL_CONFIRM, 1, 0, 0);
+    step("11 deliver", HALL_DELIVER, 1, 0, 0);
+}
+
+/* All entries are known and none is in the order: a new view puts them there. */
+static void longest_order(void)
+{
+    for (uint32_t i = 1; i <= HALL_MAX_ENTRIES; i++) {
+        step("1 submit", HALL_SUBMIT, 1, i, 0);
+        step("2 label", HALL_LABEL, 1, 0, 0);
+    }
+    step("3 send an entry", HALL_SEND_ENTRY, 1, 0, 0);
+    step("5 form", HALL_FORM, 0, 2, 1);
+    step("6 enter", HALL_ENTER, 1, 2, 0);
+    step("4 send the summary", HALL_SEND_SUMMARY, 1, 0, 0);
+    step("7 place the summary", HALL_PLACE, 1, 2, 0);
+    step("8 receive the last summary", HALL_RECEIVE, 1, 0, 0);
+    step("9 notice of the summary", HALL_SAFE, 1, 0, 0);
+    step("10 confirm", HALL_CONFIRM, 1, 0, 0);
+    step("11 deliver", HALL_DELIVER, 1, 0, 0);
+}
+
 int main(void)
 {
-    stack_of(nothing);
-    thread_itself = stack_of(nothing);
-
     measure("open", open_hall, HALL_OK, SMALL);
-    for (uint32_t i = 1; i <= HALL_MAX_ENTRIES; i++) {
-        step("submit", HALL_SUBMIT, 1, i, 0);
-        step("label", HALL_LABEL, 1, 0, 0);
-    }
-    step("send an entry", HALL_SEND_ENTRY, 1, 0, 0);
-    /* All are known and none is in the order: a new view puts them there. */
-    step("form", HALL_FORM, 0, 2, 1);
-    step("enter", HALL_ENTER, 1, 2, 0);
-    step("send the summary", HALL_SEND_SUMMARY, 1, 0, 0);
-    step("place", HALL_PLACE, 1, 2, 0);
-    step("receive the last summary", HALL_RECEIVE, 1, 0, 0);
-    step("safe", HALL_SAFE, 1, 0, 0);
-    step("confirm", HALL_CONFIRM, 1, 0, 0);
-    step("deliver", HALL_DELIVER, 1, 0, 0);
+    one_entry();
+    measure("open", open_hall, HALL_OK, SMALL);
+    longest_order();
     measure("page of a full order", read_page, HALL_OK, SMALL);
     measure("write a run", write_run, HALL_OK, SMALL);
     measure("read a run", read_run, HALL_OK, SMALL);
     measure("read an action", read_action, HALL_OK, SMALL);
 
-    printf("at most %lu bytes of stack\n", (unsigned long)most);
+    print_peaks();
     printf("%u passed, %u failed\n", passed, failed);
     return failed != 0;
 }
