@@ -1,15 +1,17 @@
-//! Instructions of a single step, by kind: the library's inner step beside the
-//! second implementation on a hall in memory. They are counted by valgrind's
-//! callgrind, so that they are the same in every run on a machine.
+//! Instructions: of a single step by kind, the library's inner step beside the
+//! second implementation on a hall in memory; of the longest settle's tries;
+//! and of the check. Valgrind's callgrind counts them, so that they are the
+//! same in every run on a machine.
 //!
-//! This program starts itself under callgrind, which counts inside two
-//! functions alone: `hall_steps` of the library and `bench_rust_step`. A part
-//! of the count ends where `bench_part_ends` is called. The library's step
-//! alone is what a list of one action takes beyond an empty list, on the same
-//! hall: the check of the hall, which `hall_steps` begins with, is in both.
+//! This program starts itself under callgrind, which counts inside the
+//! functions of `COUNTED` alone. A part of the count ends where
+//! `bench_part_ends` is called. The library's step alone is what a list of one
+//! action takes beyond an empty list, on the same hall: the check of the hall,
+//! which `hall_steps` begins with, is in both.
 
 use crate::inner;
-use crate::inputs::Run;
+use crate::inputs::{self, Run, Settle, Snapshot};
+use crate::plain;
 use reference::stored::{self, LENGTH};
 use reference::{open, Answer, Hall};
 use std::hint::black_box;
@@ -20,8 +22,16 @@ use std::{env, fs};
 /// The most calls that are counted of a kind in a run, evenly spread.
 const CALLS: usize = 128;
 
-/// Parts of the count for each row: the library with and without actions, Rust.
+/// Parts of the count for each row: the library, what of it is left out, Rust.
 const PARTS: usize = 3;
+
+/// The functions inside which instructions are counted.
+const COUNTED: [&str; 4] = [
+    "hall_steps",
+    "hall_check",
+    "bench_rust_step",
+    "bench_rust_check",
+];
 
 /// Which calls a row is about.
 const KINDS: [&str; 15] = [
@@ -65,6 +75,13 @@ fn kind(k: u32, answer: Answer) -> Option<&'static str> {
 pub fn bench_rust_step(hall: &mut Hall, action: &[u32; 4]) {
     let &[k, r, a, b] = action;
     black_box(&hall.step(k, r, a, b));
+}
+
+/// The check in plain Rust, for callgrind to find.
+#[no_mangle]
+#[inline(never)]
+pub fn bench_rust_check(hall: &[u8]) {
+    assert!(black_box(plain::is_hall(hall)));
 }
 
 /// Where a part of the count ends, for callgrind to find.
@@ -128,7 +145,16 @@ fn rust_part(run: &Run, places: &[usize]) {
     bench_part_ends();
 }
 
-/// The parts of a row, and its name and number of calls on standard output.
+/// Names the row of the last parts on standard output.
+fn name_row(heading: &str, calls: usize, row: &str) {
+    println!("{heading}\t{calls}\t{row}");
+}
+
+fn heading(run: &Run) -> String {
+    format!("Inner step by kind, {}: instructions a call", run.name)
+}
+
+/// The row of a kind.
 fn count_kind(run: &Run, kind: &str) {
     let places = places(run, kind);
     if places.is_empty() {
@@ -138,7 +164,8 @@ fn count_kind(run: &Run, kind: &str) {
     library_part(&halls, |i| std::slice::from_ref(&run.actions[places[i]]));
     library_part(&halls, |_| &[]);
     rust_part(run, &places);
-    println!("{}\t{kind}, {}", places.len(), run.name);
+    let row = format!("{kind}, {}", run.name);
+    name_row(&heading(run), places.len(), &row);
 }
 
 /// The row of all actions of a run, refused ones too.
@@ -148,19 +175,58 @@ fn count_all(run: &Run) {
     library_part(&halls, |_| &[]);
     let places: Vec<usize> = (0..run.actions.len()).collect();
     rust_part(run, &places);
-    println!("{}\tall actions, {}", run.actions.len(), run.name);
+    let row = format!("all actions, {}", run.name);
+    name_row(&heading(run), places.len(), &row);
+}
+
+/// The row of all tries of a settle.
+fn count_settle(settle: &Settle) {
+    let halls = [stored::form(&settle.hall)];
+    library_part(&halls, |_| &settle.tries);
+    library_part(&halls, |_| &[]);
+    let mut hall = settle.hall.clone();
+    for action in &settle.tries {
+        bench_rust_step(&mut hall, action);
+    }
+    bench_part_ends();
+    let tries = settle.tries.len();
+    name_row(
+        "Longest settle: instructions a try",
+        tries,
+        "all tries, longest settle",
+    );
+}
+
+/// The row of the check.
+fn count_checks(name: &str, halls: &[Snapshot]) {
+    for hall in halls {
+        assert_eq!(inner::check(hall.lent.area()), 0);
+    }
+    bench_part_ends();
+    bench_part_ends();
+    for hall in halls {
+        bench_rust_check(hall.lent.area());
+    }
+    bench_part_ends();
+    let row = format!("check of {name}");
+    name_row("Check: instructions a call", halls.len(), &row);
 }
 
 /// What this program does under callgrind.
-pub fn parts(runs: &[Run]) {
+pub fn parts(runs: &[Run], halls_of: &Run) {
     for run in runs {
         KINDS.iter().for_each(|kind| count_kind(run, kind));
         count_all(run);
     }
+    count_settle(&inputs::longest_settle());
+    for (name, halls) in inputs::halls(halls_of) {
+        count_checks(name, &halls);
+    }
 }
 
-/// Instructions of a call.
+/// Instructions of a call, and the heading of the table that they stand in.
 pub struct Count {
+    pub heading: String,
     pub name: String,
     pub library: f64,
     pub rust: f64,
@@ -190,10 +256,12 @@ fn counts(rows: &str, sums: &[u64]) -> Option<Vec<Count>> {
         return None;
     }
     let count = |(row, parts): (&&str, &[u64])| {
+        let (heading, row) = row.split_once('\t')?;
         let (calls, name) = row.split_once('\t')?;
         let calls: f64 = calls.parse().ok()?;
         let each = |sum: u64| sum as f64 / calls;
         Some(Count {
+            heading: heading.to_string(),
             name: name.to_string(),
             library: each(parts[0].checked_sub(parts[1])?),
             rust: each(parts[2]),
@@ -214,12 +282,9 @@ pub fn counted() -> Result<Option<Vec<Count>>, String> {
     let file = env::temp_dir().join(format!("bench-{}.callgrind", std::process::id()));
     let mut command = Command::new(valgrind);
     // Words of the environment would stand on the stack and move it.
-    command.env_clear().arg("--tool=callgrind").args([
-        "--toggle-collect=hall_steps",
-        "--toggle-collect=bench_rust_step",
-        "--dump-before=bench_part_ends",
-        "--combine-dumps=yes",
-    ]);
+    command.env_clear().arg("--tool=callgrind");
+    command.args(COUNTED.map(|name| format!("--toggle-collect={name}")));
+    command.args(["--dump-before=bench_part_ends", "--combine-dumps=yes"]);
     command.arg(format!("--callgrind-out-file={}", file.display()));
     command.arg(program).arg("--count").stderr(Stdio::piped());
     let ended = command.output().map_err(|error| error.to_string())?;

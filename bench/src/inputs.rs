@@ -178,7 +178,7 @@ fn snapshot(hall: &Hall) -> Snapshot {
 }
 
 /// A hall that was just opened for all recorders.
-pub fn empty_hall(n: u32) -> Snapshot {
+fn empty_hall(n: u32) -> Snapshot {
     snapshot(&open(n, 0).expect("the opening is taken"))
 }
 
@@ -197,7 +197,7 @@ pub fn along(run: &Run, count: usize) -> Vec<Snapshot> {
 }
 
 /// Random halls that no run reaches.
-pub fn odd_halls(seed: u64, count: usize) -> Vec<Snapshot> {
+fn odd_halls(seed: u64, count: usize) -> Vec<Snapshot> {
     let mut random = Random::new("bench", seed);
     (0..count)
         .map(|_| snapshot(&halls::hall(&mut random)))
@@ -205,7 +205,7 @@ pub fn odd_halls(seed: u64, count: usize) -> Vec<Snapshot> {
 }
 
 /// A hall that is full in every field, the longest to check.
-pub fn full_hall() -> Snapshot {
+fn full_hall() -> Snapshot {
     let all: Vec<usize> = (0..64).collect();
     let label = |e: usize| Label {
         view: 1,
@@ -262,12 +262,26 @@ pub fn full_hall() -> Snapshot {
     })
 }
 
+/// Halls to take along a run, and random ones.
+pub const HALLS: usize = 64;
+
+/// Halls of different kinds, with the names that rows call them by.
+pub fn halls(run: &Run) -> [(&'static str, Vec<Snapshot>); 5] {
+    [
+        ("an empty hall, N = 3", vec![empty_hall(3)]),
+        ("an empty hall, N = 8", vec![empty_hall(8)]),
+        ("halls of a run", along(run, HALLS)),
+        ("random halls", odd_halls(3, HALLS)),
+        ("a full hall", vec![full_hall()]),
+    ]
+}
+
 /// The check in place says the same as the second implementation's reader, on
 /// the inputs and on damaged ones.
-pub fn checks_agree(along: &[Snapshot], odd: &[Snapshot]) {
+pub fn checks_agree<'a>(halls: impl Iterator<Item = &'a Snapshot>) {
     let mut random = Random::new("bench", 4);
     let mut halls_seen = 0;
-    for snapshot in along.iter().chain(odd) {
+    for snapshot in halls {
         let mut bytes = snapshot.lent.area().to_vec();
         assert!(plain::is_hall(&bytes));
         for _ in 0..200 {

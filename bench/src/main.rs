@@ -21,7 +21,7 @@ use inputs::Run;
 use std::env;
 use std::path::PathBuf;
 use std::process::exit;
-use table::{print_gone, Table, Unit};
+use table::{Output, Table, Unit};
 
 const USAGE: &str =
     "usage: bench --replay PROGRAM --reference PROGRAM [--passes K] [--compare FILE]";
@@ -63,22 +63,19 @@ fn fail(status: i32, message: &str) -> ! {
     exit(status)
 }
 
-/// Prints the tables of instructions, one for each run.
-fn print_counts(runs: &[Run], earlier: &mut Option<Earlier>) {
+/// Prints the tables of instructions.
+fn print_counts(output: &mut Output) {
     let counts = match count::counted() {
         Ok(Some(counts)) => counts,
         Ok(None) => return eprintln!("valgrind is not there: no instructions are counted"),
         Err(why) => fail(1, &format!("bench: {why}")),
     };
-    let mut counts = counts.into_iter().peekable();
-    for run in runs {
-        let heading = format!("Inner step by kind, {}: instructions a call", run.name);
-        let mut table = Table::new(&heading, Unit::Instructions, 1);
-        let ending = format!(", {}", run.name);
-        while let Some(count) = counts.next_if(|count| count.name.ends_with(&ending)) {
-            table.add(count.name, count.library, count.rust);
+    for counts in counts.chunk_by(|one, next| one.heading == next.heading) {
+        let mut table = Table::new(&counts[0].heading, Unit::Instructions, 1);
+        for count in counts {
+            table.add(count.name.clone(), count.library, count.rust);
         }
-        table.print(earlier);
+        output.print(&table);
     }
 }
 
@@ -88,29 +85,31 @@ fn main() {
     };
     let runs = [Run::random(3, 1), Run::random(8, 2), Run::settled()];
     if options.count {
-        return count::parts(&runs);
+        return count::parts(&runs, &runs[1]);
     }
     let read = |file: &PathBuf| {
         Earlier::read(file).unwrap_or_else(|why| fail(2, &format!("bench: {why}")))
     };
-    let mut earlier = options.compare.as_ref().map(read);
+    let mut output = Output::new(options.compare.as_ref().map(read));
 
     eprintln!("seeds 1 and 2 for runs of N = 3 and N = 8, 3 for random halls");
-    eprintln!("times are the least of {} passes", options.passes);
+    let passes = options.passes;
+    eprintln!("times are the least of {passes} passes");
     let [three, eight, _] = &runs;
-    times::steps(options.passes, &[three, eight]).print(&mut earlier);
+    output.print(&times::steps(passes, &[three, eight]));
     if inner::LINKED {
-        times::inner_steps(options.passes, &runs).print(&mut earlier);
-        times::longest_settle(options.passes).print(&mut earlier);
+        output.print(&times::inner_steps(passes, &runs));
+        output.print(&times::longest_settle(passes));
     }
-    let [pages, checks] = times::pages_and_checks(options.passes, eight);
-    pages.print(&mut earlier);
-    checks.print(&mut earlier);
-    times::replays(options.passes, &options.replay, &options.reference, eight).print(&mut earlier);
+    let [pages, checks] = times::pages_and_checks(passes, eight);
+    output.print(&pages);
+    output.print(&checks);
+    let [replay, reference] = [&options.replay, &options.reference];
+    output.print(&times::replays(passes, replay, reference, eight));
     if inner::LINKED {
-        print_counts(&runs, &mut earlier);
+        print_counts(&mut output);
     } else {
         eprintln!("not built: the library bench_api (check alone, step without check)");
     }
-    earlier.map(print_gone);
+    output.end();
 }

@@ -138,11 +138,7 @@ impl Table {
         }
     }
 
-    /// Prints the table, unless it has no row.
-    pub fn print(&self, earlier: &mut Option<Earlier>) {
-        if self.rows.is_empty() {
-            return;
-        }
+    fn print(&self, begun: bool, earlier: &mut Option<Earlier>) {
         let mut columns = COLUMNS.to_vec();
         if earlier.is_some() {
             let what = if self.unit == Unit::Instructions {
@@ -160,7 +156,7 @@ impl Table {
             cells
         };
         let rows: Vec<_> = self.rows.iter().map(cells).collect();
-        print_table(&self.heading, &columns, &rows);
+        print_table(begun, &self.heading, &columns, &rows);
     }
 }
 
@@ -177,7 +173,8 @@ fn print_line(cells: &[String], widths: &[usize]) {
     println!();
 }
 
-fn print_table(heading: &str, columns: &[&str], rows: &[Vec<String>]) {
+/// A blank line parts the table from what was begun before it.
+fn print_table(begun: bool, heading: &str, columns: &[&str], rows: &[Vec<String>]) {
     let columns: Vec<String> = columns.iter().map(|column| column.to_string()).collect();
     let width = |place: usize| {
         let rows = rows.iter().chain([&columns]);
@@ -186,6 +183,9 @@ fn print_table(heading: &str, columns: &[&str], rows: &[Vec<String>]) {
             .unwrap_or(0)
     };
     let widths: Vec<usize> = (0..columns.len()).map(width).collect();
+    if begun {
+        println!();
+    }
     println!("### {heading}\n");
     print_line(&columns, &widths);
     print!("|");
@@ -197,16 +197,43 @@ fn print_table(heading: &str, columns: &[&str], rows: &[Vec<String>]) {
     for row in rows {
         print_line(row, &widths);
     }
-    println!();
 }
 
-/// The rows of an earlier output that this one does not have. The first
-/// column's name tells them from rows.
-pub fn print_gone(earlier: Earlier) {
-    let gone = earlier.rest();
-    if !gone.is_empty() {
-        let mut columns = COLUMNS;
-        columns[0] = "gone";
-        print_table("Rows of the earlier output alone", &columns, &gone);
+/// The tables as they are printed, beside an earlier output if there is one.
+pub struct Output {
+    earlier: Option<Earlier>,
+    begun: bool,
+}
+
+impl Output {
+    pub fn new(earlier: Option<Earlier>) -> Output {
+        Output {
+            earlier,
+            begun: false,
+        }
+    }
+
+    /// Prints a table, unless it has no row.
+    pub fn print(&mut self, table: &Table) {
+        if !table.rows.is_empty() {
+            table.print(self.begun, &mut self.earlier);
+            self.begun = true;
+        }
+    }
+
+    /// Prints the rows of the earlier output that this one does not have. The
+    /// first column's name tells them from rows.
+    pub fn end(self) {
+        let gone = self.earlier.map_or(Vec::new(), Earlier::rest);
+        if !gone.is_empty() {
+            let mut columns = COLUMNS;
+            columns[0] = "gone";
+            print_table(
+                self.begun,
+                "Rows of the earlier output alone",
+                &columns,
+                &gone,
+            );
+        }
     }
 }

@@ -1,7 +1,7 @@
 //! The tables of times.
 
 use crate::inner;
-use crate::inputs::{self, Run, Snapshot};
+use crate::inputs::{self, Run, Snapshot, HALLS};
 use crate::plain;
 use crate::programs;
 use crate::table::{Table, Unit};
@@ -12,9 +12,6 @@ use reference::{open, Hall};
 use std::cell::RefCell;
 use std::hint::black_box;
 use std::path::Path;
-
-/// Halls taken along a run, and random ones; calls in a pass on a single hall.
-const HALLS: usize = 64;
 
 /// A slice for the library, with a hall opened in it.
 fn opened(run: &Run) -> Lent {
@@ -135,7 +132,8 @@ pub fn longest_settle(passes: u32) -> Table {
     table
 }
 
-/// Halls that are timed one after another, so many times over in a pass.
+/// Halls that are timed one after another, some times over in a pass if they
+/// are few.
 struct Halls {
     name: &'static str,
     halls: Vec<Snapshot>,
@@ -243,19 +241,11 @@ impl Halls {
     }
 }
 
-/// Pages and checks of halls along a run, random halls, a full one and, for
-/// the check, empty ones.
+/// Pages and checks of halls of all kinds; pages not of empty ones.
 pub fn pages_and_checks(passes: u32, run: &Run) -> [Table; 2] {
-    let along = inputs::along(run, HALLS);
-    let random = inputs::odd_halls(3, HALLS);
-    inputs::checks_agree(&along, &random);
-    let mut halls = [
-        Halls::new("an empty hall, N = 3", vec![inputs::empty_hall(3)]),
-        Halls::new("an empty hall, N = 8", vec![inputs::empty_hall(8)]),
-        Halls::new("halls of a run", along),
-        Halls::new("random halls", random),
-        Halls::new("a full hall", vec![inputs::full_hall()]),
-    ];
+    let halls = inputs::halls(run);
+    inputs::checks_agree(halls.iter().flat_map(|(_, halls)| halls));
+    let mut halls = halls.map(|(name, halls)| Halls::new(name, halls));
     let mut pages = Table::new("Page: microseconds a call", Unit::Microseconds, passes);
     for halls in &mut halls[2..] {
         halls.page_rows(&mut pages);
