@@ -248,8 +248,8 @@ fn sums(output: &str) -> Result<Vec<u64>, String> {
     numbers.map_err(|error| format!("callgrind's output: {error}"))
 }
 
-/// The counts of the rows that this program printed. What comes behind their
-/// parts is the program's end.
+/// The counts of the rows that this program printed, none of them 0. What comes
+/// behind their parts is the program's end.
 fn counts(rows: &str, sums: &[u64]) -> Option<Vec<Count>> {
     let rows: Vec<&str> = rows.lines().collect();
     if sums.len() < PARTS * rows.len() {
@@ -259,12 +259,12 @@ fn counts(rows: &str, sums: &[u64]) -> Option<Vec<Count>> {
         let (heading, row) = row.split_once('\t')?;
         let (calls, name) = row.split_once('\t')?;
         let calls: f64 = calls.parse().ok()?;
-        let each = |sum: u64| sum as f64 / calls;
+        let each = |sum: u64| (sum > 0).then_some(sum as f64 / calls);
         Some(Count {
             heading: heading.to_string(),
             name: name.to_string(),
-            library: each(parts[0].checked_sub(parts[1])?),
-            rust: each(parts[2]),
+            library: each(parts[0].checked_sub(parts[1])?)?,
+            rust: each(parts[2])?,
         })
     };
     rows.iter()
@@ -299,5 +299,5 @@ pub fn counted() -> Result<Option<Vec<Count>>, String> {
     let counts = counts(&rows, &sums(&output)?);
     counts
         .map(Some)
-        .ok_or("callgrind's output has too few parts".to_string())
+        .ok_or("callgrind's output does not have the parts that were counted".to_string())
 }

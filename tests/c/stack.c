@@ -15,7 +15,11 @@
 #include <stdlib.h>
 #include <string.h>
 
-enum { AREA = 1 << 20, PAINT = 0xa5, MARGIN = 256, SMALL = 4095 };
+enum { AREA = 1 << 20, PAINT = 0xa5, MARGIN = 256 };
+
+/* What a call may take: the step that puts entries into order, any other step,
+ * and any other call. */
+enum { ORDERING = HALL_STACK, STEP = HALL_STACK, SMALL = 4095 };
 
 static uint8_t hall[HALL_LENGTH];
 static uint8_t answer[HALL_ANSWER_LENGTH];
@@ -181,15 +185,21 @@ static void measure(const char *name, void (*function)(void), uint32_t wanted, s
     }
 }
 
-/* A step; first without room for its answer, where it is tried on a copy. */
-static void step(const char *name, uint32_t k, uint32_t r, uint32_t a, uint32_t b)
+/* A step, first without room for its answer, which is the last reason to refuse
+ * it. */
+static void step_within(size_t limit, const char *name, uint32_t k, uint32_t r, uint32_t a, uint32_t b)
 {
     const uint32_t given[4] = {k, r, a, b};
     memcpy(words, given, sizeof words);
     room = 0;
-    measure(name, take_step, HALL_REFUSED_SHORT, HALL_STACK);
+    measure(name, take_step, HALL_REFUSED_SHORT, limit);
     room = sizeof answer;
-    measure(name, take_step, HALL_OK, HALL_STACK);
+    measure(name, take_step, HALL_OK, limit);
+}
+
+static void step(const char *name, uint32_t k, uint32_t r, uint32_t a, uint32_t b)
+{
+    step_within(STEP, name, k, r, a, b);
 }
 
 /* An entry on its whole way. */
@@ -217,7 +227,7 @@ static void longest_order(void)
     step("6 enter", HALL_ENTER, 1, 2, 0);
     step("4 send the summary", HALL_SEND_SUMMARY, 1, 0, 0);
     step("7 place the summary", HALL_PLACE, 1, 2, 0);
-    step("8 receive the last summary", HALL_RECEIVE, 1, 0, 0);
+    step_within(ORDERING, "8 receive the last summary", HALL_RECEIVE, 1, 0, 0);
     step("9 notice of the summary", HALL_SAFE, 1, 0, 0);
     step("10 confirm", HALL_CONFIRM, 1, 0, 0);
     step("11 deliver", HALL_DELIVER, 1, 0, 0);
