@@ -26,8 +26,7 @@
  *
  * Platform. The library is built for Linux on x86-64, with the System V calling
  * convention. From outside it needs memcpy and memset alone. A call takes at most
- * HALL_STACK bytes of stack, beside what the thread itself needs; any call but a
- * step takes less than 4,096.
+ * HALL_STACK bytes of stack, beside what the thread itself needs.
  */
 #ifndef HL3_HALL_LOG_HALL_H
 #define HL3_HALL_LOG_HALL_H
@@ -42,9 +41,10 @@ extern "C" {
 /* Bytes of a hall. */
 #define HALL_LENGTH 59699
 
-/* Bytes of stack that suffice for any call: most steps take some 63,000, the
- * last summary of an exchange takes more for each entry still to be ordered. */
-#define HALL_STACK 98304
+/* Bytes of stack that suffice for any call: none but a step that receives the
+ * last summary of an exchange takes 4,096, and that one takes more for each entry
+ * still to be ordered. */
+#define HALL_STACK 8192
 
 /* Bytes of an answer or a page: HALL_WORDS words of 32 bits, little-endian,
  * each read by hall_word. Words that are not described are 0; they are spare

@@ -1,9 +1,9 @@
 /*
  * Measures how many bytes of stack each call takes: it runs in a thread whose
  * stack is painted before the call and looked at afterwards. None takes more than
- * HALL_STACK, and only a step 4,096 or more. The deepest is the last summary of
- * an exchange that leaves all entries to be put into order: one level of
- * recursion for each. Prints the most that each kind of call took.
+ * HALL_STACK, and only one 4,096 or more: the last summary of an exchange that
+ * leaves all entries to be put into order, one level of recursion for each.
+ * Prints the most that each kind of call took.
  *
  * The last line is 'N passed, M failed'.
  */
@@ -17,9 +17,8 @@
 
 enum { AREA = 1 << 20, PAINT = 0xa5, MARGIN = 256 };
 
-/* What a call may take: the step that puts entries into order, any other step,
- * and any other call. */
-enum { ORDERING = HALL_STACK, STEP = HALL_STACK, SMALL = 4095 };
+/* What a call may take: the step that puts entries into order, and any other. */
+enum { ORDERING = HALL_STACK, SMALL = 4095 };
 
 static uint8_t hall[HALL_LENGTH];
 static uint8_t answer[HALL_ANSWER_LENGTH];
@@ -199,7 +198,7 @@ static void step_within(size_t limit, const char *name, uint32_t k, uint32_t r, 
 
 static void step(const char *name, uint32_t k, uint32_t r, uint32_t a, uint32_t b)
 {
-    step_within(STEP, name, k, r, a, b);
+    step_within(SMALL, name, k, r, a, b);
 }
 
 /* An entry on its whole way. */

@@ -5,7 +5,7 @@ use mathlib.Core.Path.{_≡_, refl, sym, ap, subst, _∙_}
 use mathlib.Core.Bool.{Bool, true, false, not}
 use mathlib.Core.List.{List}
 use lib.Dec.{eqb, leb}
-use borrow.Author.Tests.{eq-eqb, ne-eqb, eqb-true, leb-true, leb-false}
+use borrow.Author.Tests.{eq-eqb, ne-eqb, eqb-true, eqb-false, leb-true, leb-false}
 use Rattle.base.specs.Numbers.{within}
 use Rattle.base.specs.Chains.{refuse, _⨾_}
 use Rattle.base.proofs.ChainsLaws.{chain-none}
@@ -24,7 +24,7 @@ use Rattle.calls.proofs.ByKindLaws.{actOn, step-by-kind}
 use Rattle.calls.proofs.Refused.{kind-number}
 use Rattle.words.specs.Words.{kindAt}
 use Rattle.hall.specs.Acts.{Judged, numberOn, Does}
-use Rattle.step.specs.Numbers.{kindNumber, bytesNumber}
+use Rattle.step.specs.Numbers.{kindNumber, bytesNumber, wordNumber}
 
 -- ## The kind's word
 
@@ -71,6 +71,34 @@ kind-range k e =
     let low : k < 1 → ⊥ = λ l. let z : _≡_ {A = ℕ} 11 0 = number-low k l ∙ e in omega arith in
     let high : lastKind < k → ⊥ = λ l. let z : _≡_ {A = ℕ} 11 0 = number-high k l ∙ e in omega arith in
     (omega arith, omega arith)
+
+-- 11 to 15 by the kind
+pub word-no-kind : (n k r a b x : ℕ) → x ≡ kindNumber k → (x ≡ 0 → ⊥) → x ≡ wordNumber n k r a b
+unfolding kindNumber wordNumber number-of
+word-no-kind n k r a b x e ne = go (kindOf k) refl
+  where
+    words : KindWord → ℕ
+    words w = elim w [ kind κ ↦ inputRefusal n κ r a b | noKind ↦ 11 ]
+
+    go : (w : KindWord) → kindOf k ≡ w → x ≡ words (kindOf k)
+    go (kind κ) f = absurd (ne (e ∙ ap number-of f))
+    go noKind f = e ∙ ap number-of f ∙ sym (ap words f)
+
+pub word-kind : (n k r a b : ℕ) → 1 ≤ k → k ≤ lastKind → inputRefusal n (kindAt k) r a b ≡ wordNumber n k r a b
+unfolding wordNumber
+word-kind n k r a b low high = sym (ap (λ (w : KindWord). elim w as (λ w′. ℕ) [ kind κ ↦ inputRefusal n κ r a b | noKind ↦ 11 ]) (kind-at k low high))
+
+-- none of them: the kind is 1 to the last
+pub word-range : (n k r a b : ℕ) → wordNumber n k r a b ≡ 0 → (1 ≤ k) × (k ≤ lastKind)
+unfolding wordNumber kindNumber number-of
+word-range n k r a b e = kind-range k (go (kindOf k) refl)
+  where
+    words : KindWord → ℕ
+    words w = elim w [ kind κ ↦ inputRefusal n κ r a b | noKind ↦ 11 ]
+
+    go : (w : KindWord) → kindOf k ≡ w → number-of (kindOf k) ≡ 0
+    go (kind κ) f = ap number-of f
+    go noKind f = let z : _≡_ {A = ℕ} 11 0 = sym (ap words f) ∙ e in absurd (omega arith)
 
 -- no 31: the bytes hold a hall
 pub bytes-hold : (bs : List ℕ) → bytesNumber bs ≡ 0 → isStored bs ≡ true
@@ -151,20 +179,48 @@ module _ (bs : List ℕ) (k r a b : ℕ) where
           e
           ∙ sym (ap (λ (o : Outcome). model.plain (o .answer) .number) (is-act ∙ act-is true (eq-eqb _ 0 (j .words))) ∙ kind-number bs (kindAt k) r a b)
 
+-- ## 11 to 15 together, on bytes that hold a hall
+
+module _ (bs : List ℕ) (k r a b : ℕ) (s : isStored bs ≡ true) (m n : ℕ) (size : m ≡ hallOf bs .size) (e : n ≡ wordNumber m k r a b) where
+  number : n ≡ wordNumber (hallOf bs .size) k r a b
+  number = e ∙ ap (λ (m : ℕ). wordNumber m k r a b) size
+
+  pub word-refused : (n ≡ 0 → ⊥) → Steps bs k r a b (Answer.Refused n) bs
+  unfolding wordNumber kindNumber number-of
+  word-refused ne = by-cases (eqb (kindNumber k) 0) in-words no-word
+    where
+      in-words : eqb (kindNumber k) 0 ≡ true → Steps bs k r a b (Answer.Refused n) bs
+      in-words t =
+          let i = kind-range k (eqb-true (kindNumber k) 0 t) in
+          words-refused bs k r a b (i .0) (i .1) s n (number ∙ sym (word-kind (hallOf bs .size) k r a b (i .0) (i .1))) ne
+
+      no-word : eqb (kindNumber k) 0 ≡ false → Steps bs k r a b (Answer.Refused n) bs
+      no-word t =
+          let ne′ : kindNumber k ≡ 0 → ⊥ = eqb-false (kindNumber k) 0 t in
+          kind-refused bs k r a b n (number ∙ sym (word-no-kind (hallOf bs .size) k r a b (kindNumber k) refl ne′)) ne
+
+  pub word-judged : n ≡ 0 → Judged bs (kindAt k) r a b × ((1 ≤ k) × (k ≤ lastKind))
+  word-judged z =
+      let i = word-range (hallOf bs .size) k r a b (sym number ∙ z) in
+      (judged bs k r a b (i .0) (i .1) s n (number ∙ sym (word-kind (hallOf bs .size) k r a b (i .0) (i .1))) z, i)
+
 -- ## 11 and 31 together
 
-module _ (bs : List ℕ) (k r a b m q n : ℕ) (p : m ≡ kindNumber k) (s : q ≡ bytesNumber bs) (e : n ≡ m ⨾ q) where
+module _ (bs : List ℕ) (k r a b n : ℕ) (e : n ≡ kindNumber k ⨾ bytesNumber bs) where
+  abbrev m : ℕ
+  m = kindNumber k
+
   pub early-refused : (n ≡ 0 → ⊥) → Steps bs k r a b (Answer.Refused n) bs
   unfolding _⨾_
   early-refused ne = by-cases (eqb m 0) bytes kind-first
     where
       bytes : eqb m 0 ≡ true → Steps bs k r a b (Answer.Refused n) bs
       bytes t =
-          let i = kind-range k (sym p ∙ eqb-true m 0 t) in
-          bytes-refused bs k r a b (i .0) (i .1) n (e ∙ rw (t, _⨾_) refl ∙ s) ne
+          let i = kind-range k (eqb-true m 0 t) in
+          bytes-refused bs k r a b (i .0) (i .1) n (e ∙ rw (t, _⨾_) refl) ne
 
       kind-first : eqb m 0 ≡ false → Steps bs k r a b (Answer.Refused n) bs
-      kind-first t = kind-refused bs k r a b n (e ∙ rw (t, _⨾_) refl ∙ p) ne
+      kind-first t = kind-refused bs k r a b n (e ∙ rw (t, _⨾_) refl) ne
 
   pub early-passed : n ≡ 0 → isStored bs ≡ true
-  early-passed z = bytes-hold bs (sym s ∙ chain-none m q (sym e ∙ z) .1)
+  early-passed z = bytes-hold bs (chain-none m (bytesNumber bs) (sym e ∙ z) .1)

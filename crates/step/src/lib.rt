@@ -3,6 +3,8 @@
 ghost use mathlib.Core.Path.{_≡_};
 ghost use mathlib.Core.Bool.{true};
 ghost use Prim.Native.Nat.{_≤_};
+ghost use Rattle.base.specs.Chains.{_⨾_};
+ghost use Rattle.model.specs.Hall.{maxRecorders};
 ghost use Rattle.model.specs.Kinds.{lastKind};
 ghost use Rattle.model.specs.Answers.{plain};
 ghost use Rattle.model.specs.Call.{wordsOf};
@@ -11,7 +13,7 @@ ghost use Rattle.words.specs.Words.{kindAt};
 ghost use Rattle.hall.specs.Acts.{Judged, numberOn, Does};
 ghost use Rattle.calls.specs.Calls.{stepOn};
 ghost use Rattle.calls.specs.Steps.{Steps};
-ghost use Rattle.step.specs.Numbers.{kindNumber, bytesNumber};
+ghost use Rattle.step.specs.Numbers.{kindNumber, bytesNumber, wordNumber};
 use answer::Answer;
 use client::confirm;
 use client::confirm_refusal;
@@ -99,16 +101,33 @@ pub fn bytes_refusal(bytes: &[u8]) -> u32
     if is_hall(bytes) { 0 } else { refusals::BYTES }
 }
 
+// 11 and 31.
+fn early_refusal(bytes: &[u8], k: u32) -> u32
+    ensures { λ n. ⌜ n ≡ kindNumber k ⨾ bytesNumber (now (bytes .entry)) ⌝ }
+{
+    let kind = kind_refusal(k);
+    let stored = bytes_refusal(bytes);
+    first(kind, stored)
+}
+
+// 11, then 12 to 15 in a hall of n recorders.
+fn word_refusal(n: u32, k: u32, r: u32, a: u32, b: u32) -> u32
+    requires { ⌜ n ≤ maxRecorders ⌝ }
+    ensures { λ x. ⌜ x ≡ wordNumber n k r a b ⌝ }
+{
+    let kind = kind_refusal(k);
+    if kind != 0 {
+        return kind;
+    }
+    input_refusal(n, k, r, a, b)
+}
+
 // A step on bytes that are known to hold a hall: they are not checked again. For the crates of this repository.
 pub fn step_hall(bytes: &mut [u8], k: u32, r: u32, a: u32, b: u32) -> Answer
     requires { ⌜ isStored (now bytes) ≡ true ⌝ }
     ensures { λ x. ⌜ Steps (now (bytes .entry)) k r a b x (now (bytes .exit)) ⌝ }
 {
-    let kind = kind_refusal(k);
-    if kind != 0 {
-        return Answer::Refused(kind);
-    }
-    let why = input_refusal(size(bytes), k, r, a, b);
+    let why = word_refusal(size(bytes), k, r, a, b);
     if why != 0 {
         return Answer::Refused(why);
     }
@@ -120,11 +139,7 @@ pub fn refusal_hall(bytes: &[u8], k: u32, r: u32, a: u32, b: u32) -> u32
     requires { ⌜ isStored (now bytes) ≡ true ⌝ }
     ensures { λ n. ⌜ n ≡ plain (stepOn (now (bytes .entry)) (wordsOf k r a b) .answer) .number ⌝ }
 {
-    let kind = kind_refusal(k);
-    if kind != 0 {
-        return kind;
-    }
-    let why = input_refusal(size(bytes), k, r, a, b);
+    let why = word_refusal(size(bytes), k, r, a, b);
     if why != 0 {
         return why;
     }
@@ -135,9 +150,7 @@ pub fn refusal_hall(bytes: &[u8], k: u32, r: u32, a: u32, b: u32) -> u32
 pub fn refusal(bytes: &[u8], k: u32, r: u32, a: u32, b: u32) -> u32
     ensures { λ n. ⌜ n ≡ plain (stepOn (now (bytes .entry)) (wordsOf k r a b) .answer) .number ⌝ }
 {
-    let kind = kind_refusal(k);
-    let stored = bytes_refusal(bytes);
-    let why = first(kind, stored);
+    let why = early_refusal(bytes, k);
     if why != 0 {
         return why;
     }
@@ -148,9 +161,7 @@ pub fn refusal(bytes: &[u8], k: u32, r: u32, a: u32, b: u32) -> u32
 pub fn step(bytes: &mut [u8], k: u32, r: u32, a: u32, b: u32) -> Answer
     ensures { λ x. ⌜ Steps (now (bytes .entry)) k r a b x (now (bytes .exit)) ⌝ }
 {
-    let kind = kind_refusal(k);
-    let stored = bytes_refusal(bytes);
-    let why = first(kind, stored);
+    let why = early_refusal(bytes, k);
     if why != 0 {
         return Answer::Refused(why);
     }

@@ -1,61 +1,50 @@
 -- `step::step_hall` meets its contract. Assumes nothing.
-use mathlib.Core.Path.{sym, ap, _∙_}
 use denote.Ref.{now}
 use borrow.Author.Needs.{needs}
-use Rattle.model.specs.Kinds.{inputRefusal}
-use Rattle.words.specs.Words.{kindAt}
 use Rattle.step.proofs.StepsLaws as steps
 use Rattle.step.proofs.step_hall.Statement.{statement}
 use Rattle.step.proofs.step_hall.Tie as tie
 
-kind-refusal-requires : tie.Need-kind-refusal-requires
-kind-refusal-requires c κs = search needs
-
-returns : tie.Need-returns
-returns c = let a = c .before .before .before .args in steps.kind-refused (now (a .bytes)) (a .k) (a .r) (a .a) (a .b) _ (c .before .kind-refusal .ensures) (c .if1 .taken)
-
 size-requires : tie.Need-size-requires
 size-requires c κs = search needs
 
-input-refusal-requires : tie.Need-input-refusal-requires
-input-refusal-requires c κs = let k = steps.kind-range _ (sym (c .before .before .before .kind-refusal .ensures) ∙ c .before .before .if1 .left) in (c .size .ensures .1, (k .0, k .1))
+word-refusal-requires : tie.Need-word-refusal-requires
+word-refusal-requires c κs = search needs
 
 same-length : tie.Need-same-length
 same-length c = search needs
 
-returns-2 : tie.Need-returns-2
-returns-2 c =
-    let a = c .before .before .before .before .before .before .before .args in
-    let k = steps.kind-range _ (sym (c .before .before .before .before .before .kind-refusal .ensures) ∙ c .before .before .before .before .if1 .left) in
-    steps.words-refused (now (a .bytes)) (a .k) (a .r) (a .a) (a .b) (k .0) (k .1) (c .before .before .before .before .before .before .before .pre) _ (c .before .input-refusal .ensures ∙ ap (λ n. inputRefusal n (kindAt (a .k)) (a .r) (a .a) (a .b)) (c .before .before .size .ensures .0)) (c .if2 .taken)
+returns : tie.Need-returns
+returns c =
+    let s = c .before .before .before .before .before in
+    let a = s .args in
+    steps.word-refused (now (a .bytes)) (a .k) (a .r) (a .a) (a .b) (s .pre) _ _ (c .before .before .size .ensures .0) (c .before .word-refusal .ensures) (c .if1 .taken)
 
 act-requires : tie.Need-act-requires
 act-requires c κs =
-    let a = c .before .before .before .before .before .before .before .before .args in
-    let k = steps.kind-range _ (sym (c .before .before .before .before .before .before .kind-refusal .ensures) ∙ c .before .before .before .before .before .if1 .left) in
-    (steps.judged (now (a .bytes)) (a .k) (a .r) (a .a) (a .b) (k .0) (k .1) (c .before .before .before .before .before .before .before .before .pre) _ (c .before .before .input-refusal .ensures ∙ ap (λ n. inputRefusal n (kindAt (a .k)) (a .r) (a .a) (a .b)) (c .before .before .before .size .ensures .0)) (c .before .if2 .left), k .0, k .1)
+    let s = c .before .before .before .before .before .before in
+    let a = s .args in
+    let j = steps.word-judged (now (a .bytes)) (a .k) (a .r) (a .a) (a .b) (s .pre) _ _ (c .before .before .before .size .ensures .0) (c .before .before .word-refusal .ensures) (c .before .if1 .left) in
+    (j .0, j .1 .0, j .1 .1)
 
 same-length-2 : tie.Need-same-length-2
 same-length-2 c = search needs
 
-returns-3 : tie.Need-returns-3
-returns-3 c =
-    let a = c .before .before .before .before .before .before .before .before .before .before .before .args in
-    let k = steps.kind-range _ (sym (c .before .before .before .before .before .before .before .before .before .kind-refusal .ensures) ∙ c .before .before .before .before .before .before .before .before .if1 .left) in
-    steps.acted (now (a .bytes)) (a .k) (a .r) (a .a) (a .b) (k .0) (k .1) (c .before .before .before .before .before .before .before .before .before .before .before .pre) _ _
-    (steps.judged (now (a .bytes)) (a .k) (a .r) (a .a) (a .b) (k .0) (k .1) (c .before .before .before .before .before .before .before .before .before .before .before .pre) _ (c .before .before .before .before .before .input-refusal .ensures ∙ ap (λ n. inputRefusal n (kindAt (a .k)) (a .r) (a .a) (a .b)) (c .before .before .before .before .before .before .size .ensures .0)) (c .before .before .before .before .if2 .left))
-    (c .before .before .act .ensures)
+returns-2 : tie.Need-returns-2
+returns-2 c =
+    let s = c .before .before .before .before .before .before .before .before .before in
+    let a = s .args in
+    let j = steps.word-judged (now (a .bytes)) (a .k) (a .r) (a .a) (a .b) (s .pre) _ _ (c .before .before .before .before .before .before .size .ensures .0) (c .before .before .before .before .before .word-refusal .ensures) (c .before .before .before .before .if1 .left) in
+    steps.acted (now (a .bytes)) (a .k) (a .r) (a .a) (a .b) (j .1 .0) (j .1 .1) (s .pre) _ _ (j .0) (c .before .before .act .ensures)
 
 pub step-hall-spec : {M : Type 1} → statement M
 step-hall-spec =
     tie.close
     (tie.spec
-    kind-refusal-requires
-    returns
     size-requires
-    input-refusal-requires
+    word-refusal-requires
     same-length
-    returns-2
+    returns
     act-requires
     same-length-2
-    returns-3)
+    returns-2)
