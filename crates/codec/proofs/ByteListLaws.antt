@@ -6,12 +6,11 @@ use mathlib.Core.Path.{_≡_, sym, ap, _∙_, refl, ap₂, subst}
 use mathlib.Core.Bool.{Bool, true, false, _&&_, and-eq-true-iff}
 use mathlib.Core.List.{List, [], _∷_, _++_}
 use lib.ListN.{length, getD, set, take, drop, length-take, length-drop}
-use lib.Seq.{take-suc-set, sets, take-take, drop-cons, drop-length, getD-take}
-use borrow.Author.Tests.{leb-true, le-leb, lt-leb, eq-eqb, ne-eqb}
+use lib.Seq.{take-suc-set, sets, take-take}
+use borrow.Author.Tests.{leb-true, le-leb, lt-leb}
 use native.Mathlib.Nat.{mul-one, not-suc-le-zero, le-of-suc-le-suc}
 use lib.Dec.{leb}
-use Rattle.base.specs.Lists.{Each, has}
-use Rattle.base.proofs.ListsLaws.{has-here, has-there}
+use Rattle.base.specs.Lists.{Each}
 use Rattle.codec.specs.Bytes.{zeros, part, allZero}
 use Rattle.codec.specs.Number.{number, byte, between, digits, value}
 use Rattle.codec.specs.Cells.{encodeAll, decodeAll, validAll}
@@ -144,27 +143,3 @@ module _ (lo hi : ℕ) where
 -- x after the first n places
 pub take-push : (xs : List ℕ) (n x : ℕ) → n < length xs → take (n + 1) (set xs n x) ≡ take n xs ++ (x ∷ [])
 take-push xs n x h = ap (λ (k : ℕ). take k (set xs n x)) (add-one n) ∙ take-suc-set xs n x h
-
--- a search: of the first n places, those from i on are left
-module _ (xs : List ℕ) (n : ℕ) (room : n ≤ length xs) (e : ℕ) where
-  count : length (take n xs) ≡ n
-  count = simp length-take (omega arith)
-
-  pub left-none : (i : ℕ) → n ≤ i → i ≤ n → has (drop i (take n xs)) e ≡ false
-  unfolding has
-  left-none i h k =
-      let q : i ≡ length (take n xs) = omega (arith, count) in
-      ap (λ (j : ℕ). has (drop j (take n xs)) e) q ∙ ap (λ (l : List ℕ). has l e) (drop-length (take n xs))
-
-  module _ (i : ℕ) (h : i < n) where
-    opens : drop i (take n xs) ≡ getD xs i 0 ∷ drop (i + 1) (take n xs)
-    opens =
-        drop-cons (take n xs) i 0 (omega (arith, count))
-        ∙ ap (λ (x : ℕ). x ∷ drop (suc i) (take n xs)) (getD-take n xs i 0 h)
-        ∙ ap (λ (k : ℕ). getD xs i 0 ∷ drop k (take n xs)) (sym (add-one i))
-
-    pub left-here : getD xs i 0 ≡ e → has (drop i (take n xs)) e ≡ true
-    left-here q = ap (λ (l : List ℕ). has l e) opens ∙ has-here (getD xs i 0) (drop (i + 1) (take n xs)) e (eq-eqb e (getD xs i 0) (sym q))
-
-    pub left-next : (getD xs i 0 ≡ e → ⊥) → has (drop i (take n xs)) e ≡ has (drop (i + 1) (take n xs)) e
-    left-next ne = ap (λ (l : List ℕ). has l e) opens ∙ has-there (getD xs i 0) (drop (i + 1) (take n xs)) e (ne-eqb e (getD xs i 0) (λ q. ne (sym q)))

@@ -9,7 +9,7 @@ ghost use Prim.Native.Nat.{_+_, _-_, _≤_, _<_};
 ghost use lib.Dec.{eqb};
 ghost use lib.ListN.{length, getD, take, drop};
 ghost use lib.Seq.{sets};
-ghost use Rattle.base.specs.Lists.{bit, has, countOf, nth};
+ghost use Rattle.base.specs.Lists.{bit, countOf, nth};
 ghost use Rattle.base.specs.Numbers.{upTo};
 ghost use Rattle.base.specs.Update.{upd};
 ghost use Rattle.codec.specs.Bytes.{part, zeros, allZero};
@@ -220,23 +220,6 @@ pub fn byte_at(l: ByteList, k: usize) -> u8
     ensures { λ r. ⌜ r ≡ nth (items l) k 0 ⌝ }
 {
     l.places[k - 1]
-}
-
-// Has a list a byte?
-pub fn has_byte(l: ByteList, x: u8) -> bool
-    requires { ⌜ l .len ≤ listCapacity ⌝ }
-    ensures { λ r. ⌜ r ≡ has (items l) x ⌝ }
-{
-    let n = l.len;
-    let places = l.places;
-    let mut i = 0;
-    while i < n {
-        if places[i] == x {
-            return true;
-        }
-        i += 1;
-    }
-    false
 }
 
 // The first of some numbers: "nothing waits" is Nothing.
