@@ -1,6 +1,6 @@
 // The answers of a call as values, and the same in plain numbers (specs/Meaning.antt).
 ghost use mathlib.Core.Path.{_≡_};
-ghost use Rattle.model.specs.Answers.{accepted};
+ghost use Rattle.model.specs.Answers.{accepted, word};
 ghost use Rattle.answer.specs.Meaning.{meaning, SaysAnswer, SaysPage};
 use model::payload::Payload;
 
@@ -99,12 +99,12 @@ pub fn is_accepted(a: Answer) -> bool
     plain(a).number == 0
 }
 
-// "The page of a recorder gives .."
+// "The page of a recorder gives .."; "the margin in place of the yes or no" (02, A1)
 pub struct Page {
     pub view: u32,
     pub set: u32,
     pub phase: u32,
-    pub primary: bool,
+    pub margin: i32,
     pub high: u32,
     pub order_length: u32,
     pub buffer_length: u32,
@@ -121,7 +121,18 @@ pub enum PageAnswer {
     Refused(u32),
 }
 
-// A page in plain numbers: 0 or the refusal's number, and the page's fields in turn.
+// A signed number as a word: n for n, 2^32 - n for -n.
+fn word(m: i32) -> u32
+    ensures { λ r. ⌜ r ≡ word m ⌝ }
+{
+    if m < 0 {
+        4294967295 - (-(m + 1)) as u32
+    } else {
+        m as u32
+    }
+}
+
+// A page in plain numbers: 0 or the refusal's number, and the page's fields in turn, the margin as a word.
 pub struct PlainPage {
     pub number: u32,
     pub values: [u32; 13],
@@ -137,7 +148,7 @@ pub fn plain_page(a: PageAnswer) -> PlainPage
                 p.view,
                 p.set,
                 p.phase,
-                p.primary as u32,
+                word(p.margin),
                 p.high,
                 p.order_length,
                 p.buffer_length,

@@ -5,3 +5,4 @@ pub mod Filters
 pub mod Begins
 pub mod ChainsLaws
 pub mod NumbersLaws
+pub mod Integers

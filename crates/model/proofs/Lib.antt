@@ -5,6 +5,7 @@ pub mod ServiceLaws
 pub mod Ordering
 pub mod Accepting
 pub mod Kept
+pub mod Margins
 pub mod Agreement
 pub mod Computing
 pub mod Cards

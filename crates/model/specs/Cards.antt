@@ -1,13 +1,13 @@
--- The P cards of 01's "Bench cards", one list; the proof over it is in proofs/Cards. A card is what the definitions give and
--- what 01 says, as lists of numbers.
+-- The P cards of 01's "Bench cards", and the margins that 02 names, one list; the proof over it is in proofs/Cards. A card is
+-- what the definitions give and what 01 or 02 says, as lists of numbers.
 -- Assumes nothing.
 use Prim.Native.Nat.{ℕ}
 use mathlib.Core.Bool.{true, false}
 use mathlib.Core.List.{List, [], _∷_, _++_, map}
 use Rattle.quorum.specs.Sets.{inMask}
-use Rattle.quorum.specs.Votes.{quorum, builtIn}
+use Rattle.quorum.specs.Votes.{margin, quorum, builtIn}
 use Rattle.model.specs.Hall.{Entries, Service, Hall}
-use Rattle.model.specs.Answers.{plain}
+use Rattle.model.specs.Answers.{plain, word}
 use Rattle.model.specs.Opening.{Opening, openingOf, openRefusal, opened}
 use Rattle.model.specs.Call.{Words, wordsOf, hl3, broken, call}
 use Rattle.model.specs.Run.{run, answers}
@@ -88,6 +88,19 @@ quorumCards =
       wanted = 0 ∷ 1 ∷ 1 ∷ 0 ∷ [];
     }
 
+-- the margin of the set with mask b among n recorders, as a word
+unfoldable pub marginCard : ℕ → ℕ → ℕ
+marginCard n b = word (margin builtIn n (inMask b))
+
+-- "For N = 3, {2, 3} gives 0, {1, 2} gives 2 and the empty set gives -4." (02, A1) For N 4, by one vote: {2, 3, 4} gives 1,
+-- {3, 4} gives -1.
+unfoldable pub marginCards : Card
+marginCards =
+    record {
+      given = marginCard 3 6 ∷ marginCard 3 3 ∷ marginCard 3 0 ∷ marginCard 4 14 ∷ marginCard 4 12 ∷ [];
+      wanted = 0 ∷ 2 ∷ 4294967292 ∷ 1 ∷ 4294967295 ∷ [];
+    }
+
 -- "P numbers 0 and 256: 14; 255 forms, then 255 again: 33."
 unfoldable pub numberCard : Card
 numberCard =
@@ -153,6 +166,7 @@ cards =
     ∷ sizeCard
     ∷ foundersCard
     ∷ quorumCards
+    ∷ marginCards
     ∷ numberCard
     ∷ enterCard
     ∷ labelCard

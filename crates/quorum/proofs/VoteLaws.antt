@@ -1,18 +1,26 @@
--- Laws of votes and quorums, for every row of votes. Two quorums of one hall share a recorder.
+-- Laws of votes, margins and quorums, for every row of votes. Two quorums of one hall share a recorder.
 -- Assumes nothing.
-use Prim.Native.Nat.{ℕ, zero, suc, _+_, _*_, _≤_, _<_}
+use Prim.Native.Nat.{ℕ, zero, suc, _+_, _-_, _*_, _≤_, _<_}
 use native.Mathlib.Numerals.{add-one}
 use native.Mathlib.Omega.{arith}
 use mathlib.Core.Bool.{Bool, true, false}
 use mathlib.Core.Logic.{_⊎_, inl, inr, ⊎-elim}
-use mathlib.Core.Path.{_≡_, refl, sym, ap, _∙_}
-use borrow.Author.Tests.{leb-true, eqb-true}
-use lib.Dec.{eqb, ltb}
+use mathlib.Core.Path.{_≡_, refl, sym, ap, ap₂, _∙_}
+use mathlib.Core.List.{List, [], _∷_}
+use borrow.Author.Tests.{ltb-true, leb-true, eqb-true}
+use lib.Dec.{eqb, leb, ltb}
+use lib.IntN.{pos, negℤ, subℕ}
+use lib.ListN.{getD}
+use lib.Signed.{_≤ℤ_}
+use mir.Syntax.{w32}
+use mir.Val.{SFits}
 use Rattle.base.specs.Numbers.{upTo}
-use Rattle.base.specs.Lists.{filter, has}
+use Rattle.base.specs.Lists.{filter, has, all}
+use Rattle.base.proofs.Bools.{and-both}
+use Rattle.base.proofs.Integers.{sub-sign, sub-range, sub-fits}
 use Rattle.base.proofs.NumbersLaws.{all-upTo}
 use Rattle.quorum.specs.Sets.{inMask, members}
-use Rattle.quorum.specs.Votes.{votes, total, quorum, share, builtIn, rowOf, builtInRow}
+use Rattle.quorum.specs.Votes.{votes, total, margin, quorum, share, builtIn, rowOf, maxVote, smallRow, builtInRow}
 use Rattle.quorum.proofs.SetLaws.{has-members}
 
 -- ---- one recorder more
@@ -43,20 +51,54 @@ votes-agree row row′ (suc n) s t f g =
     ∙ (rw (f (suc n) (omega arith) (omega arith), g (suc n) (omega arith) (omega arith), ih))
     ∙ sym (votes-more row′ n t)
 
-pub quorum-agree : (row row′ : ℕ → ℕ) (n : ℕ) (s t : ℕ → Bool) → Same n row row′ → Same n s t → quorum row n s ≡ quorum row′ n t
-unfolding quorum total
-quorum-agree row row′ n s t f g =
-    cc (votes-agree row row′ n (λ k. true) (λ k. true) f (λ k low high. refl), votes-agree row row′ n s t f g)
-
 pub votes-same : (row : ℕ → ℕ) (n : ℕ) (s t : ℕ → Bool) → Same n s t → votes row n s ≡ votes row n t
 votes-same row n s t = votes-agree row row n s t (λ k low high. refl)
 
-pub quorum-same : (row : ℕ → ℕ) (n : ℕ) (s t : ℕ → Bool) → Same n s t → quorum row n s ≡ quorum row n t
-quorum-same row n s t = quorum-agree row row n s t (λ k low high. refl)
+pub margin-agree : (row row′ : ℕ → ℕ) (n : ℕ) (s t : ℕ → Bool) → Same n row row′ → Same n s t → margin row n s ≡ margin row′ n t
+unfolding margin total
+margin-agree row row′ n s t f g =
+    ap₂ (λ (v w : ℕ). subℕ (2 * v) w) (votes-agree row row′ n s t f g)
+    (votes-agree row row′ n (λ k. true) (λ k. true) f (λ k low high. refl))
 
-pub quorum-members : (row : ℕ → ℕ) (n b : ℕ) → quorum row n (inMask b) ≡ quorum row n (has (members n b))
-quorum-members row n b =
-    quorum-same row n (inMask b) (has (members n b)) (λ k low high. sym (has-members n b k low high))
+pub margin-members : (row : ℕ → ℕ) (n b : ℕ) → margin row n (inMask b) ≡ margin row n (has (members n b))
+margin-members row n b =
+    margin-agree row row n (inMask b) (has (members n b)) (λ k low high. refl) (λ k low high. sym (has-members n b k low high))
+
+-- ---- the margin's sign and range
+
+-- above 0 just if "twice its votes exceed the votes of recorders 1 to N together"
+pub quorum-votes : (row : ℕ → ℕ) (n : ℕ) (s : ℕ → Bool) → quorum row n s ≡ ltb (total row n) (2 * votes row n s)
+unfolding quorum margin
+quorum-votes row n s = sub-sign (2 * votes row n s) (total row n)
+
+share-most : (t : Bool) (v : ℕ) → share t v ≤ v
+unfolding share
+share-most true v = omega arith
+share-most false v = omega arith
+
+votes-most : (row : ℕ → ℕ) (n : ℕ) (s : ℕ → Bool) → votes row n s ≤ total row n
+unfolding votes total share
+votes-most row zero s = omega arith
+votes-most row (suc n) s = omega (arith, votes-more row n s, share-most (s (suc n)) (row (suc n)), votes-most row n s)
+
+total-most : (row : ℕ → ℕ) (n : ℕ) → ((k : ℕ) → row k ≤ maxVote) → total row n ≤ n * maxVote
+unfolding votes total
+total-most row zero small = omega arith
+total-most row (suc n) small = omega (arith, small (suc n), total-most row n small)
+
+pub margin-range : (row : ℕ → ℕ) (n : ℕ) (s : ℕ → Bool) → ((k : ℕ) → row k ≤ maxVote) → n ≤ 8
+    → (negℤ (pos 8000) ≤ℤ margin row n s) × (margin row n s ≤ℤ pos 8000)
+unfolding margin
+margin-range row n s small h =
+    let most = total-most row n small in
+    sub-range (2 * votes row n s) (total row n) 8000 (omega (arith, votes-most row n s)) (omega arith)
+
+-- so it fits an i32
+pub margin-fits : (row : ℕ → ℕ) (n : ℕ) (s : ℕ → Bool) → ((k : ℕ) → row k ≤ maxVote) → n ≤ 8 → SFits w32 (margin row n s)
+unfolding margin
+margin-fits row n s small h =
+    let most = total-most row n small in
+    sub-fits (2 * votes row n s) (total row n) (omega (arith, votes-most row n s)) (omega arith)
 
 -- ---- two quorums of one hall share a recorder
 
@@ -87,8 +129,7 @@ meet-or-less row (suc n) a b =
     go l false e false f = inr (omega (arith, more a false e, more b false f))
 
 pub quorum-more : (row : ℕ → ℕ) (n : ℕ) (s : ℕ → Bool) → quorum row n s ≡ true → total row n < 2 * votes row n s
-unfolding quorum
-quorum-more row n s q = omega (arith, leb-true)
+quorum-more row n s q = ltb-true (total row n) (2 * votes row n s) (sym (quorum-votes row n s) ∙ q)
 
 pub quorums-meet : (row : ℕ → ℕ) (n : ℕ) (a b : ℕ → Bool) → quorum row n a ≡ true → quorum row n b ≡ true → Shared n a b
 quorums-meet row n a b p q =
@@ -97,11 +138,20 @@ quorums-meet row n a b p q =
     (λ l. absurd (omega (arith, quorum-more row n a p, quorum-more row n b q)))
     (meet-or-less row n a b)
 
--- ---- the code's test, and eight recorders
+-- ---- the code's count, and eight recorders
 
-pub quorum-test : (row : ℕ → ℕ) (n : ℕ) (s : ℕ → Bool) {a v : ℕ} → a ≡ total row n → v ≡ votes row n s → ltb a (2 * v) ≡ quorum row n s
-unfolding quorum
-quorum-test row n s e f = cc
+-- each vote of a small row, blank ones included
+small-vote : (row : List ℕ) → smallRow row ≡ true → (k : ℕ) → rowOf row k ≤ maxVote
+unfolding smallRow all rowOf
+small-vote row small k = at row (k - 1) small
+  where
+    at : (xs : List ℕ) (i : ℕ) → all (λ v. leb v maxVote) xs ≡ true → getD xs i 0 ≤ maxVote
+    at [] i t = omega arith
+    at (x ∷ xs) zero t = leb-true x maxVote (and-both (leb x maxVote) (all (λ v. leb v maxVote) xs) t .0)
+    at (x ∷ xs) (suc i) t = at xs i (and-both (leb x maxVote) (all (λ v. leb v maxVote) xs) t .1)
+
+pub small-share : (row : List ℕ) → smallRow row ≡ true → (t : Bool) (k : ℕ) → share t (rowOf row k) ≤ maxVote
+small-share row small t k = omega (arith, share-most t (rowOf row k), small-vote row small k)
 
 -- 255 is the mask of all
 pub votes-all : (row : ℕ → ℕ) (n : ℕ) → n ≤ 8 → votes row n (inMask 255) ≡ total row n
@@ -114,15 +164,19 @@ unfolding rowOf builtIn filter upTo
 built-in-row k low high =
     eqb-true _ _ (all-upTo (λ j. eqb (rowOf builtInRow j) (builtIn j)) 8 refl k low high)
 
-pub quorum-built-in : (n : ℕ) (s : ℕ → Bool) → n ≤ 8 → quorum (rowOf builtInRow) n s ≡ quorum builtIn n s
-quorum-built-in n s h =
-    quorum-agree (rowOf builtInRow) builtIn n s s (λ k low high. built-in-row k low (omega arith)) (λ k low high. refl)
+pub margin-built-in : (n : ℕ) (s : ℕ → Bool) → n ≤ 8 → margin (rowOf builtInRow) n s ≡ margin builtIn n s
+margin-built-in n s h =
+    margin-agree (rowOf builtInRow) builtIn n s s (λ k low high. built-in-row k low (omega arith)) (λ k low high. refl)
+
+pub built-in-small : smallRow builtInRow ≡ true
+unfolding smallRow all
+built-in-small = refl
 
 -- of three recorders, 1 and 2 are a quorum, and 2 and 3 have but half the votes
 three-yes : quorum builtIn 3 (inMask 3) ≡ true
-unfolding quorum total votes builtIn inMask
+unfolding quorum margin total votes builtIn inMask
 three-yes = refl
 
 three-no : quorum builtIn 3 (inMask 6) ≡ false
-unfolding quorum total votes builtIn inMask
+unfolding quorum margin total votes builtIn inMask
 three-no = refl

@@ -1,11 +1,15 @@
--- Votes and quorums. 01, "Votes and views". The row of votes is an argument; the built-in row is one instance.
+-- Votes, margins and quorums. 01, "Votes and views"; 02, A1. The row of votes is an argument; the built-in row is one
+-- instance.
 -- A set is given by its test, ℕ → Bool, so that a mask (`inMask b`) and a list (`has xs`) both serve.
 -- Assumes nothing.
 use Prim.Native.Nat.{ℕ, zero, suc, _+_, _-_, _*_}
 use mathlib.Core.Bool.{Bool, true, false}
 use mathlib.Core.List.{List, [], _∷_}
-use lib.Dec.{eqb, ltb}
+use lib.Dec.{eqb, leb}
+use lib.IntN.{ℤ, pos, subℕ}
 use lib.ListN.{getD}
+use lib.Signed.{ltZ}
+use Rattle.base.specs.Lists.{all}
 
 -- the votes of recorders 1 to n that are in the set s
 unfoldable pub votes : (ℕ → ℕ) → ℕ → (ℕ → Bool) → ℕ
@@ -16,9 +20,13 @@ votes row (suc n) s = elim (s (suc n)) [ true ↦ row (suc n) | false ↦ 0 ] + 
 unfoldable pub total : (ℕ → ℕ) → ℕ → ℕ
 total row n = votes row n (λ k. true)
 
--- "A set is a quorum if twice its votes exceed the votes of recorders 1 to N together."
+-- "a signed margin: twice the set's votes less the votes of the whole hall" (02, A1)
+unfoldable pub margin : (ℕ → ℕ) → ℕ → (ℕ → Bool) → ℤ
+margin row n s = subℕ (2 * votes row n s) (total row n)
+
+-- "A set is a quorum if twice its votes exceed the votes of recorders 1 to N together": "a margin above 0" (02, A1)
 unfoldable pub quorum : (ℕ → ℕ) → ℕ → (ℕ → Bool) → Bool
-quorum row n s = ltb (total row n) (2 * votes row n s)
+quorum row n s = ltZ (pos 0) (margin row n s)
 
 -- v votes if t holds
 unfoldable pub share : Bool → ℕ → ℕ
@@ -31,6 +39,14 @@ builtIn k = elim (eqb k 1) [ true ↦ 2 | false ↦ 1 ]
 -- recorder k's votes in a row written as a list: recorder 1 first
 unfoldable pub rowOf : List ℕ → ℕ → ℕ
 rowOf row k = getD row (k - 1) 0
+
+-- "0 to 1,000 each" (02, A4)
+abbrev pub maxVote : ℕ
+maxVote = 1000
+
+-- is each vote of a row written as a list at most that?
+unfoldable pub smallRow : List ℕ → Bool
+smallRow row = all (λ v. leb v maxVote) row
 
 -- the built-in row as such a list
 abbrev pub builtInRow : List ℕ

@@ -1,10 +1,11 @@
-// Votes and quorums of a hall (document 01, "Votes and views"). For the crates of this repository: a `requires` is met
-// by each caller's proof.
+// Sets, votes and margins of a hall (document 01, "Votes and views"; 02, A1). For the crates of this repository: a
+// `requires` is met by each caller's proof.
 
 ghost use mathlib.Core.Path.{_≡_};
-ghost use Prim.Native.Nat.{_-_, _^_, _≤_, _<_};
+ghost use mathlib.Core.Bool.{true};
+ghost use Prim.Native.Nat.{_-_, _^_, _≤_};
 ghost use Rattle.quorum.specs.Sets.{inMask};
-ghost use Rattle.quorum.specs.Votes.{votes, quorum, share, builtIn, rowOf};
+ghost use Rattle.quorum.specs.Votes.{votes, margin, share, builtIn, rowOf, smallRow};
 
 // "Recorder 1 has 2 votes, recorders 2 to 8 have 1 each."
 const BUILT_IN: [u32; 8] = [2, 1, 1, 1, 1, 1, 1, 1];
@@ -42,32 +43,32 @@ fn vote(row: &[u32; 8], k: u32, set: u32) -> u32
 }
 
 // The votes of recorders 1 to n that are in the set.
-fn votes(row: &[u32; 8], n: u32, set: u32) -> u64
-    requires { ⌜ n ≤ 8 ⌝ }
+fn votes(row: &[u32; 8], n: u32, set: u32) -> u32
+    requires { ⌜ (n ≤ 8) × (smallRow (now row) ≡ true) ⌝ }
     ensures { λ r. ⌜ r ≡ votes (rowOf (now (row .entry))) n (inMask set) ⌝ }
-    ensures small { λ r. ⌜ r < 2 ^ 35 ⌝ }
+    ensures small { λ r. ⌜ r ≤ 8000 ⌝ }
 {
-    let mut sum: u64 = 0;
+    let mut sum: u32 = 0;
     let mut k: u32 = 0;
     while k < n {
         k += 1;
-        sum += vote(row, k, set) as u64;
+        sum += vote(row, k, set);
     }
     sum
 }
 
-// "A set is a quorum if twice its votes exceed the votes of recorders 1 to N together."
-fn is_quorum(row: &[u32; 8], n: u32, set: u32) -> bool
-    requires { ⌜ n ≤ 8 ⌝ }
-    ensures { λ r. ⌜ r ≡ quorum (rowOf (now (row .entry))) n (inMask set) ⌝ }
+// "a signed margin: twice the set's votes less the votes of the whole hall", recorders 1 to n
+fn margin(row: &[u32; 8], n: u32, set: u32) -> i32
+    requires { ⌜ (n ≤ 8) × (smallRow (now row) ≡ true) ⌝ }
+    ensures { λ m. ⌜ m ≡ margin (rowOf (now (row .entry))) n (inMask set) ⌝ }
 {
-    votes(row, n, ALL) < 2 * votes(row, n, set)
+    (2 * votes(row, n, set)) as i32 - votes(row, n, ALL) as i32
 }
 
-// "A view is primary if its set holds a quorum", with the built-in row.
-pub fn is_primary(n: u32, set: u32) -> bool
+// The margin with the built-in row.
+pub fn built_in_margin(n: u32, set: u32) -> i32
     requires { ⌜ n ≤ 8 ⌝ }
-    ensures { λ r. ⌜ r ≡ quorum builtIn n (inMask set) ⌝ }
+    ensures { λ m. ⌜ m ≡ margin builtIn n (inMask set) ⌝ }
 {
-    is_quorum(&BUILT_IN, n, set)
+    margin(&BUILT_IN, n, set)
 }

@@ -1,0 +1,20 @@
+-- `quorum::built_in_margin` meets its contract: the listed row is the built-in one. Assumes nothing.
+use mathlib.Core.Path.{_∙_}
+use mir.Facts.{toZ-ofZ}
+use Rattle.quorum.specs.Sets.{inMask}
+use Rattle.quorum.proofs.VoteLaws.{margin-built-in, built-in-small}
+use Rattle.quorum.proofs.built_in_margin.Statement.{statement}
+use Rattle.quorum.proofs.built_in_margin.Tie as tie
+
+margin-requires : tie.Need-margin-requires
+margin-requires c κs = (c .before .pre, built-in-small)
+
+returns : tie.Need-returns
+returns c =
+    let start = c .before .before in
+    toZ-ofZ (record { sfits = c .margin .ok })
+    ∙ c .margin .ensures
+    ∙ margin-built-in (start .args .n) (inMask (start .args .set)) (start .pre)
+
+pub built-in-margin-spec : {M : Type 1} → statement M
+built-in-margin-spec = tie.close (tie.spec margin-requires returns)
