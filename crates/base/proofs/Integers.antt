@@ -69,3 +69,6 @@ pos-minus a (suc b) = refl
 -- two numbers below 2^31, read as signed and subtracted
 pub read-minus : (a b : ℕ) → a < 2 ^ 31 → b < 2 ^ 31 → toZ w32 a -ℤ toZ w32 b ≡ subℕ a b
 read-minus a b h k = ap₂ _-ℤ_ (toZ-pos w32 h) (toZ-pos w32 k) ∙ pos-minus a b
+
+pub read-fits : (a b : ℕ) → a < 2 ^ 31 → b < 2 ^ 31 → SFits w32 (toZ w32 a -ℤ toZ w32 b)
+read-fits a b h k = subst (SFits w32) (sym (read-minus a b h k)) (sub-fits a b h (omega arith))

@@ -168,10 +168,6 @@ pub margin-built-in : (n : ℕ) (s : ℕ → Bool) → n ≤ 8 → margin (rowOf
 margin-built-in n s h =
     margin-agree (rowOf builtInRow) builtIn n s s (λ k low high. built-in-row k low (omega arith)) (λ k low high. refl)
 
-pub built-in-small : smallRow builtInRow ≡ true
-unfolding smallRow all
-built-in-small = refl
-
 -- of three recorders, 1 and 2 are a quorum, and 2 and 3 have but half the votes
 three-yes : quorum builtIn 3 (inMask 3) ≡ true
 unfolding quorum margin total votes builtIn inMask

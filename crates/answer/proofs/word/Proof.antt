@@ -1,4 +1,5 @@
 -- By the sign. Assumes nothing.
+use native.Mathlib.Omega.{arith}
 use Rattle.answer.proofs.WordLaws as laws
 use Rattle.answer.proofs.word.Statement.{statement}
 use Rattle.answer.proofs.word.Tie as tie
@@ -13,7 +14,7 @@ cast-result : tie.Need-cast-result
 cast-result c = laws.rest-casts (c .before .args .m) (c .before .fits .m) (c .if1 .taken)
 
 sub-result-2 : tie.Need-sub-result-2
-sub-result-2 c = laws.rest-most (c .before .args .m) (c .before .fits .m) (c .if1 .taken)
+sub-result-2 c = omega (arith, laws.rest-most (c .before .args .m) (c .before .fits .m) (c .if1 .taken))
 
 cast-result-2 : tie.Need-cast-result-2
 cast-result-2 c = laws.read-casts (c .before .args .m) (c .before .fits .m) (c .if1 .left)

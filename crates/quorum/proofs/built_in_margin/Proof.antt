@@ -1,13 +1,16 @@
 -- `quorum::built_in_margin` meets its contract: the listed row is the built-in one. Assumes nothing.
-use mathlib.Core.Path.{_∙_}
+use mathlib.Core.Path.{refl, _∙_}
 use mir.Facts.{toZ-ofZ}
+use Rattle.base.specs.Lists.{all}
 use Rattle.quorum.specs.Sets.{inMask}
-use Rattle.quorum.proofs.VoteLaws.{margin-built-in, built-in-small}
+use Rattle.quorum.specs.Votes.{smallRow}
+use Rattle.quorum.proofs.VoteLaws.{margin-built-in}
 use Rattle.quorum.proofs.built_in_margin.Statement.{statement}
 use Rattle.quorum.proofs.built_in_margin.Tie as tie
 
 margin-requires : tie.Need-margin-requires
-margin-requires c κs = (c .before .pre, built-in-small)
+unfolding smallRow all
+margin-requires c κs = (c .before .pre, refl)
 
 returns : tie.Need-returns
 returns c =

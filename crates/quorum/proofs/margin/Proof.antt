@@ -1,13 +1,11 @@
 -- `quorum::margin` meets its contract: the votes of the set of all are the total, and the difference fits. Assumes nothing.
 use native.Mathlib.Omega.{arith}
 use Prim.Native.Nat.{ℕ, _*_}
-use mathlib.Core.Path.{_≡_, sym, ap₂, subst, _∙_}
-use lib.IntN.{subℕ, _-ℤ_}
-use mir.Syntax.{w32}
-use mir.Val.{SFits, toZ}
+use mathlib.Core.Path.{ap₂, _∙_}
+use lib.IntN.{subℕ}
 use mir.Facts.{toZ-ofZ}
 use borrow.Author.Needs.{needs}
-use Rattle.base.proofs.Integers.{sub-fits, read-minus}
+use Rattle.base.proofs.Integers.{read-minus, read-fits}
 use Rattle.quorum.specs.Votes.{rowOf, margin}
 use Rattle.quorum.proofs.VoteLaws.{votes-all}
 use Rattle.quorum.proofs.margin.Statement.{statement}
@@ -28,21 +26,17 @@ votes-requires-2 c κs = search needs
 cast-result-2 : tie.Need-cast-result-2
 cast-result-2 c = record { sfits = omega (arith, c .votes2 .ensures .1) }
 
--- the machine's difference is that of the two counts
-difference : (c : tie.After-votes2) → toZ w32 (2 * c .before .votes .result) -ℤ toZ w32 (c .votes2 .result) ≡ subℕ (2 * c .before .votes .result) (c .votes2 .result)
-difference c = read-minus (2 * c .before .votes .result) (c .votes2 .result) (omega (arith, c .before .votes .ensures .1)) (omega (arith, c .votes2 .ensures .1))
-
 sub-result : tie.Need-sub-result
-sub-result c = subst (SFits w32) (sym (difference c)) (sub-fits (2 * c .before .votes .result) (c .votes2 .result) (omega (arith, c .before .votes .ensures .1)) (omega (arith, c .votes2 .ensures .1)))
+sub-result c = read-fits (2 * c .before .votes .result) (c .votes2 .result) (omega (arith, c .before .votes .ensures .1)) (omega (arith, c .votes2 .ensures .1))
 
 returns : tie.Need-returns
 unfolding margin
 returns c =
     let start = c .before .before in
-    let row = rowOf (start .args .row .now) in
     toZ-ofZ (sub-result c)
-    ∙ difference c
-    ∙ ap₂ (λ (v a : ℕ). subℕ (2 * v) a) (c .before .votes .ensures .0) (c .votes2 .ensures .0 ∙ votes-all row (start .args .n) (start .pre .0))
+    ∙ read-minus (2 * c .before .votes .result) (c .votes2 .result) (omega (arith, c .before .votes .ensures .1)) (omega (arith, c .votes2 .ensures .1))
+    ∙ ap₂ (λ (v a : ℕ). subℕ (2 * v) a) (c .before .votes .ensures .0)
+    (c .votes2 .ensures .0 ∙ votes-all (rowOf (start .args .row .now)) (start .args .n) (start .pre .0))
 
 pub margin-spec : {M : Type 1} → statement M
 margin-spec =
