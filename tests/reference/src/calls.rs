@@ -47,12 +47,13 @@ impl Answer {
 }
 
 impl Page {
+    /// The margin is a word in two's complement.
     pub fn words(&self) -> [u32; WORDS] {
         words([
             self.view,
             self.members,
             self.phase,
-            self.primary,
+            self.margin as u32,
             self.high,
             self.order_length,
             self.buffer_length,

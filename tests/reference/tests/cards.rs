@@ -67,6 +67,16 @@ fn quorums() {
 }
 
 #[test]
+fn margins() {
+    use reference::hall::margin;
+    assert_eq!(margin(3, 0b110), 0);
+    assert_eq!(margin(3, 0b011), 2);
+    assert_eq!(margin(3, 0), -4);
+    assert_eq!(margin(4, 0b1110), 1);
+    assert_eq!(margin(4, 0b1100), -1);
+}
+
+#[test]
 fn view_numbers() {
     let mut hall = open(2, 0).unwrap();
     assert_eq!(hall.step(5, 0, 0, 1), refused(14));
@@ -189,8 +199,8 @@ fn pages() {
     assert!(all_accepted(&steps_at_1(&mut hall, &steps)));
     let page = hall.page(1, 1).unwrap();
     assert_eq!(
-        (page.view, page.members, page.primary, page.high),
-        (1, 3, 1, 1)
+        (page.view, page.members, page.margin, page.high),
+        (1, 3, 2, 1)
     );
     assert_eq!((page.order_length, page.buffer_length), (1, 1));
     assert_eq!((page.phase, page.confirm, page.report), (0, 1, 1));
@@ -206,9 +216,18 @@ fn pages() {
     assert_eq!(hall.page(0, 0), Err(12));
     let page = hall.page(3, 0).unwrap();
     assert_eq!(
-        (page.view, page.members, page.primary, page.high),
-        (0, 0, 0, 0)
+        (page.view, page.members, page.margin, page.high),
+        (0, 0, -4, 0)
     );
+    assert_eq!(page.words()[3], 0xffff_fffc);
+}
+
+/// Founders have highest primary 1, also with a margin of 0.
+#[test]
+fn the_page_of_a_founder_without_a_quorum() {
+    let page = open(3, 1).unwrap().page(1, 0).unwrap();
+    assert_eq!((page.view, page.members), (1, 1));
+    assert_eq!((page.margin, page.high), (0, 1));
 }
 
 #[test]
