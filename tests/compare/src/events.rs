@@ -1,7 +1,7 @@
 //! Steps of special interest, told apart by the hall before and after them, so
 //! that the tests can ask that each of them came.
 
-use reference::hall::{at_mark, is_quorum, LAST_SEQ, MOST_LABELS};
+use reference::hall::{at_mark, LAST_SEQ, MOST_LABELS};
 use reference::{Hall, Message, Phase, Recorder, Seat, View};
 
 /// The events that random calls must meet.
@@ -95,7 +95,7 @@ fn look(hall: &Hall, recorder: &Recorder, view: &View, seat: &Seat, kind: u32) -
         safe_sources: recorder.safe_sources,
         summary_sent: seat.summary.is_some(),
         members: view.members,
-        primary: is_quorum(hall.n, view.members),
+        primary: hall.is_primary(view),
         message: queued.map(|q| (q.message, q.source)),
         built: if last_notice {
             built_length(view, recorder.heard)

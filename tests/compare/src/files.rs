@@ -4,7 +4,7 @@
 
 use crate::counts::{Call, Counts};
 use crate::library::{self, Lent};
-use crate::pair::{answer_slice, first_difference, random_room, words_of, Difference};
+use crate::pair::{answer_slice, first_difference, given, random_room, words_of, Difference};
 use crate::random::Random;
 use crate::vectors::run_files;
 use reference::calls::{self, ANSWER_LENGTH, WORDS};
@@ -84,10 +84,7 @@ impl File {
         }
         same("file", &self.lent, &self.wanted)?;
         same("answer", &words, &wanted_words)?;
-        match number {
-            0 => Ok((0, words_of(words.area()))),
-            _ => Ok((number, [0; WORDS])),
-        }
+        Ok(given(number, &words))
     }
 
     fn read(

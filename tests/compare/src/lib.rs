@@ -8,6 +8,7 @@ pub mod events;
 pub mod files;
 pub mod halls;
 pub mod library;
+pub mod margins;
 pub mod offsets;
 pub mod openings;
 pub mod pair;

@@ -10,7 +10,7 @@
 
 use compare::counts::Counts;
 use compare::pair::Difference;
-use compare::{damage, events, files, offsets, openings, runs, vectors};
+use compare::{damage, events, files, margins, offsets, openings, runs, vectors};
 use std::env;
 use std::process::ExitCode;
 use std::sync::atomic::{AtomicU64, Ordering};
@@ -22,11 +22,12 @@ use std::time::Instant;
 type Test = fn(u64, &mut Counts) -> Result<(), Difference>;
 
 /// The tests, each with its number of seeds; 1 for those that use none.
-const TESTS: [(&str, Test, u64); 14] = [
+const TESTS: [(&str, Test, u64); 15] = [
     ("offsets by hand", offsets::by_hand, 1),
     ("vectors", vectors::all, 1),
     ("all openings", openings::all, 1),
     ("any openings", openings::any, 32),
+    ("margins", margins::all, 1),
     ("offsets of halls", offsets::of_halls, 1_000),
     ("opened halls", runs::opened, 320),
     ("odd halls", runs::odd, 400),
@@ -139,6 +140,7 @@ fn report_counts(counts: &Counts) -> bool {
     println!("through the C interface:\n{counts}");
     let mut events = events::EVENTS.to_vec();
     events.extend([damage::STILL_A_HALL, damage::NO_HALL]);
+    events.extend(margins::EVENTS);
     events.extend(files::EVENTS);
     let missing = counts.missing(&events);
     for what in &missing {

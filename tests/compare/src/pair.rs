@@ -51,6 +51,14 @@ pub fn words_of(area: &[u8]) -> [u32; WORDS] {
     words
 }
 
+/// The number of a call, and the words that it gave if the number is 0.
+pub fn given(number: u32, answer: &Lent) -> (u32, [u32; WORDS]) {
+    match number {
+        0 => (0, words_of(answer.area())),
+        _ => (number, [0; WORDS]),
+    }
+}
+
 /// Mostly the length of an answer, else a length about it.
 pub fn random_room(random: &mut Random) -> usize {
     match random.below(60) {
@@ -185,11 +193,7 @@ impl Pair {
         }
         let after = answer_after(room, wanted.as_ref().ok());
         self.compare(Some((&answer, after))).map_err(at)?;
-        let words = if number == 0 {
-            words_of(answer.area())
-        } else {
-            [0; WORDS]
-        };
+        let (number, words) = given(number, &answer);
         let kind = if action[0] <= 11 { action[0] } else { 0 };
         counts.call(Call::Step(kind), number, words[0]);
         if let Some(event) = events::event(before, self.hall.as_ref(), action, number) {
@@ -198,14 +202,15 @@ impl Pair {
         Ok((number, words))
     }
 
-    /// A page with a slice of `room` bytes for it.
+    /// A page with a slice of `room` bytes for it. Gives the library's number,
+    /// and its words if that is 0.
     pub fn page(
         &mut self,
         r: u32,
         place: u32,
         room: usize,
         counts: &mut Counts,
-    ) -> Result<u32, Difference> {
+    ) -> Result<(u32, [u32; WORDS]), Difference> {
         let wanted = calls::page_of(self.hall.as_ref(), r, place, room >= ANSWER_LENGTH);
         let mut page = answer_slice(room);
         let number = library::page(&mut self.lent, r, place, &mut page);
@@ -216,7 +221,7 @@ impl Pair {
         counts.call(Call::Page, number, 0);
         let after = answer_after(room, wanted.as_ref().ok());
         self.compare(Some((&page, after))).map_err(at)?;
-        Ok(number)
+        Ok(given(number, &page))
     }
 
     /// The second implementation reads its own bytes as the same hall.

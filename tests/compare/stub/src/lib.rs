@@ -110,8 +110,12 @@ pub unsafe extern "C" fn hall_page(
         return number;
     }
     let number = calls::page(hall, r, place, page);
-    if faulty("the page says primary without a view") && number == 0 && page[..4] == [0; 4] {
-        page[12] = 1;
+    if faulty("the margin of an outsider given as 0") && number == 0 && page[..4] == [0; 4] {
+        page[12..16].fill(0);
+    }
+    if faulty("the sign of the margin lost") && number == 0 {
+        let margin = i32::from_le_bytes([page[12], page[13], page[14], page[15]]);
+        page[12..16].copy_from_slice(&margin.abs().to_le_bytes());
     }
     number
 }
