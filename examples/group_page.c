@@ -12,7 +12,9 @@
  *     page R     show the page of recorder R as it is now
  *     # ...      a remark; empty lines are passed over too
  *
- * A refused action changes nothing; the refusal is explained in words.
+ * A refused action changes nothing; the refusal is explained in words. A page
+ * shows the margin of the recorder's group: twice its votes less those of the
+ * hall, above 0 if the group is primary.
  *
  * With --record, FILE becomes a run file of the opening and all actions given,
  * refused ones too; ./replay FILE lists it.
@@ -169,12 +171,12 @@ static void print_group(const uint8_t *page)
     uint32_t view = hall_word(page, HALL_PAGE_VIEW);
     printf("  group            ");
     if (view == 0) {
-        puts("none");
-        return;
+        printf("none");
+    } else {
+        print_set(hall_word(page, HALL_PAGE_SET));
+        printf(" under number %" PRIu32, view);
     }
-    print_set(hall_word(page, HALL_PAGE_SET));
-    printf(" under number %" PRIu32 ", %s\n", view,
-           hall_word(page, HALL_PAGE_PRIMARY) ? "primary" : "not primary");
+    printf(", margin %" PRId32 "\n", hall_signed(page, HALL_PAGE_MARGIN));
 }
 
 static void print_highest(const uint8_t *page)

@@ -120,7 +120,9 @@ enum hall_page_word {
     HALL_PAGE_VIEW = 0,          /* number of the current view, 0 for none */
     HALL_PAGE_SET = 1,           /* its set, 0 for none */
     HALL_PAGE_PHASE = 2,         /* enum hall_phase */
-    HALL_PAGE_PRIMARY = 3,       /* 1 if the view is primary, else 0 */
+    HALL_PAGE_MARGIN = 3,        /* twice the votes of its set less the votes of the hall, above 0
+                                    if the view is primary; without a view that of the empty set;
+                                    read by hall_signed */
     HALL_PAGE_HIGHEST = 4,       /* highest primary, 0 for none */
     HALL_PAGE_ORDER_LENGTH = 5,  /* entries in the order, the common log */
     HALL_PAGE_BUFFER_LENGTH = 6, /* labelled entries not yet sent */
@@ -205,6 +207,13 @@ static inline uint32_t hall_word(const uint8_t *words, size_t i)
     const uint8_t *word = words + 4 * i;
     return (uint32_t)word[0] | (uint32_t)word[1] << 8 | (uint32_t)word[2] << 16 |
            (uint32_t)word[3] << 24;
+}
+
+/* The same word as a signed number, which it holds in two's complement. */
+static inline int32_t hall_signed(const uint8_t *words, size_t i)
+{
+    uint32_t word = hall_word(words, i);
+    return word >> 31 ? -1 - (int32_t)~word : (int32_t)word;
 }
 
 /*

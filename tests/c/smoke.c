@@ -1,7 +1,8 @@
 /*
  * Opens a hall, takes the steps of the bench card "the listing" and reads
- * pages, and checks every value that comes back. Writes and reads run files.
- * Then refused calls, each of which must leave all lent bytes as they were.
+ * pages, and checks every value that comes back. Reads the margins of opened
+ * halls. Writes and reads run files. Then refused calls, each of which must
+ * leave all lent bytes as they were.
  *
  * Each lent slice is allocated by itself with just the length that is lent, so
  * that a memory checker sees any access outside it.
@@ -130,9 +131,9 @@ static void listing_card(void)
 {
     const uint32_t entry[] = {HALL_CASE_ENTRY, 1, 1, 1, 1, 700};
     const uint32_t from[] = {HALL_CASE_FROM, 1, 700};
-    const uint32_t opened[] = {1, 1, HALL_PHASE_NORMAL, 1, 1, 0, 0, 1, 1};
-    const uint32_t labelled[] = {1, 1, HALL_PHASE_NORMAL, 1, 1, 0, 1, 1, 1};
-    const uint32_t last[] = {1, 1, HALL_PHASE_NORMAL, 1, 1, 1, 0, 2, 2, 1, 1, 1, 700};
+    const uint32_t opened[] = {1, 1, HALL_PHASE_NORMAL, 2, 1, 0, 0, 1, 1};
+    const uint32_t labelled[] = {1, 1, HALL_PHASE_NORMAL, 2, 1, 0, 1, 1, 1};
+    const uint32_t last[] = {1, 1, HALL_PHASE_NORMAL, 2, 1, 1, 0, 2, 2, 1, 1, 1, 700};
     uint8_t *hall = filled(HALL_LENGTH, 0x5a);
 
     CHECK(hall_open(hall, HALL_LENGTH, 1, 1) == 0);
@@ -158,9 +159,9 @@ static void listing_card(void)
 static void second_view(void)
 {
     const uint32_t summary[] = {HALL_CASE_SUMMARY, 2, 0, 0, 1, 1};
-    const uint32_t outside[] = {0, 0, HALL_PHASE_NORMAL, 0, 0, 0, 0, 1, 1};
-    const uint32_t sending[] = {2, 2, HALL_PHASE_SEND, 0, 1, 0, 0, 1, 1};
-    const uint32_t complete[] = {2, 2, HALL_PHASE_NORMAL, 0, 1, 0, 0, 1, 1};
+    const uint32_t outside[] = {0, 0, HALL_PHASE_NORMAL, (uint32_t)-4, 0, 0, 0, 1, 1};
+    const uint32_t sending[] = {2, 2, HALL_PHASE_SEND, (uint32_t)-2, 1, 0, 0, 1, 1};
+    const uint32_t complete[] = {2, 2, HALL_PHASE_NORMAL, (uint32_t)-2, 1, 0, 0, 1, 1};
     uint8_t *hall = filled(HALL_LENGTH, 0);
     uint32_t number;
 
@@ -182,6 +183,47 @@ static void second_view(void)
     CHECK(step_gives(hall, HALL_SAFE, 2, 0, summary, 6));
     CHECK(step_is_done(hall, HALL_LABEL, 2, 0));
     free(hall);
+}
+
+/* Whether recorder r of a hall just opened has this margin. */
+static int margin_is(uint32_t n, uint32_t founders, uint32_t r, int32_t wanted)
+{
+    uint8_t *hall = filled(HALL_LENGTH, 0);
+    uint8_t *page = filled(HALL_ANSWER_LENGTH, 0xa5);
+    int ok = hall_open(hall, HALL_LENGTH, n, founders) == 0 &&
+             hall_page(hall, HALL_LENGTH, r, 0, page, HALL_ANSWER_LENGTH) == 0 &&
+             hall_signed(page, HALL_PAGE_MARGIN) == wanted;
+    free(page);
+    free(hall);
+    return ok;
+}
+
+/* Of three recorders {2, 3}, {1, 2} and one without a view; of four {2, 3, 4}
+ * and {3, 4}. */
+static void margins(void)
+{
+    CHECK(margin_is(3, 6, 2, 0));
+    CHECK(margin_is(3, 3, 1, 2));
+    CHECK(margin_is(3, 3, 3, -4));
+    CHECK(margin_is(4, 14, 2, 1));
+    CHECK(margin_is(4, 12, 3, -1));
+}
+
+/* Words of either sign, at both ends of their range. */
+static void signed_words(void)
+{
+    static const uint8_t words[] = {
+        0,    0,    0,    0,
+        1,    0,    0,    0,
+        0xff, 0xff, 0xff, 0x7f,
+        0,    0,    0,    0x80,
+        0xff, 0xff, 0xff, 0xff};
+
+    CHECK(hall_signed(words, 0) == 0);
+    CHECK(hall_signed(words, 1) == 1);
+    CHECK(hall_signed(words, 2) == INT32_MAX);
+    CHECK(hall_signed(words, 3) == INT32_MIN);
+    CHECK(hall_signed(words, 4) == -1);
 }
 
 /* Lengths, broken bytes and the order of refusals. */
@@ -381,6 +423,8 @@ int main(void)
 {
     listing_card();
     second_view();
+    margins();
+    signed_words();
     refused_calls();
     longer_slices();
     run_files();
