@@ -92,8 +92,8 @@ quorumCards =
 unfoldable pub marginCard : ℕ → ℕ → ℕ
 marginCard n b = word (margin builtIn n (inMask b))
 
--- "For N = 3, {2, 3} gives 0, {1, 2} gives 2 and the empty set gives -4." (02, A1) For N 4, by one vote: {2, 3, 4} gives 1,
--- {3, 4} gives -1.
+-- "For N = 3, {2, 3} gives 0, {1, 2} gives 2 and the empty set gives -4." (02, A1) For N = 4, {2, 3, 4} gives 1 and {3, 4}
+-- gives -1. The word of -1 is 4294967295.
 unfoldable pub marginCards : Card
 marginCards =
     record {

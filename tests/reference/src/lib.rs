@@ -1,8 +1,8 @@
 //! A second, independent implementation of the HL3 hall log.
 //!
-//! It is written from the scope document, its readings and the figures of
-//! source document 003, without sight of the engine, and serves as the outside
-//! reference in tests: plain vectors and bit sets, one function per action.
+//! It is written from the scope document and the requests after it, their
+//! readings and the figures of source document 003, without sight of the
+//! engine, and serves as the outside reference in tests: plain vectors and bit sets, one function per action.
 //! The rules hold on every hall whose fields are in range (`Hall::check`), not
 //! only on halls reached from an opening.
 //!
