@@ -33,6 +33,10 @@ not-below : (m : ℤ) → ltZ m (pos 0) ≡ false → m ≡ pos (mag m)
 not-below (pos n) t = refl
 not-below (negsuc n) t = absurd (true≢false t)
 
+-- a number that is not negative is cast to its word
+casts : {z : ℤ} (n : ℕ) → n < 2 ^ 31 → z ≡ pos n → T (nonNeg z) × Fits w32 (natAbs z)
+casts n h e = subst (λ (z : ℤ). T (nonNeg z) × Fits w32 (natAbs z)) (sym e) (tt, record { fits = omega arith })
+
 module _ (m : ℤ) (fits : SFits w32 m) where
   -- what the machine reads
   abbrev read : ℤ
@@ -65,9 +69,7 @@ module _ (m : ℤ) (fits : SFits w32 m) where
     rest-is = toZ-ofZ turned-fits ∙ turned
 
     pub rest-casts : T (nonNeg rest) × Fits w32 (natAbs rest)
-    rest-casts =
-        subst (λ (z : ℤ). T (nonNeg z) × Fits w32 (natAbs z)) (sym rest-is)
-        (tt, record { fits = omega (arith, fits .sfits) })
+    rest-casts = casts (mag m) (fits .sfits) rest-is
 
     pub rest-most : natAbs rest ≤ 4294967295
     rest-most = omega (arith, rest-casts .1 .fits)
@@ -87,9 +89,7 @@ module _ (m : ℤ) (fits : SFits w32 m) where
     read-is = toZ-ofZ fits ∙ not-below m (ap (λ (z : ℤ). ltZ z (pos 0)) (sym (toZ-ofZ fits)) ∙ test)
 
     pub read-casts : T (nonNeg read) × Fits w32 (natAbs read)
-    read-casts =
-        subst (λ (z : ℤ). T (nonNeg z) × Fits w32 (natAbs z)) (sym read-is)
-        (tt, record { fits = omega (arith, fits .sfits) })
+    read-casts = casts (mag m) (fits .sfits) read-is
 
     pub word-above : natAbs read ≡ word m
     unfolding word

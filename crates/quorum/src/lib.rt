@@ -57,7 +57,7 @@ fn votes(row: &[u32; 8], n: u32, set: u32) -> u32
     sum
 }
 
-// "a signed margin: twice the set's votes less the votes of the whole hall", recorders 1 to n
+// The margin of a set: "twice the set's votes less the votes of the whole hall" (02, A1), recorders 1 to n.
 fn margin(row: &[u32; 8], n: u32, set: u32) -> i32
     requires { ⌜ (n ≤ 8) × (smallRow (now row) ≡ true) ⌝ }
     ensures { λ m. ⌜ m ≡ margin (rowOf (now (row .entry))) n (inMask set) ⌝ }
