@@ -1,15 +1,15 @@
--- The P cards of 01's "Bench cards", and the margins that 02 names, one list; the proof over it is in proofs/Cards. A card is
--- what the definitions give and what 01 or 02 says, as lists of numbers.
+-- The P cards of 01's "Bench cards", and the margins and view numbers that 02 names, one list; the proof over it is in
+-- proofs/Cards. A card is what the definitions give and what 01 or 02 says, as lists of numbers.
 -- Assumes nothing.
 use Prim.Native.Nat.{ℕ}
 use mathlib.Core.Bool.{true, false}
 use mathlib.Core.List.{List, [], _∷_, _++_, map}
 use Rattle.quorum.specs.Sets.{inMask}
 use Rattle.quorum.specs.Votes.{margin, quorum, builtIn}
-use Rattle.model.specs.Hall.{Entries, Service, Hall}
+use Rattle.model.specs.Hall.{maxNumber, Entries, Service, Recorders, Hall}
 use Rattle.model.specs.Answers.{plain, word}
 use Rattle.model.specs.Opening.{Opening, openingOf, openRefusal, opened}
-use Rattle.model.specs.Call.{Words, wordsOf, hl3, broken, call}
+use Rattle.model.specs.Call.{Words, wordsOf, hl3, broken, step, call}
 use Rattle.model.specs.Run.{run, answers}
 use Rattle.model.specs.RunFile.{RunText, fileBytes}
 use Rattle.model.specs.Listing.{listing}
@@ -101,12 +101,54 @@ marginCards =
       wanted = 0 ∷ 2 ∷ 4294967292 ∷ 1 ∷ 4294967295 ∷ [];
     }
 
--- "P numbers 0 and 256: 14; 255 forms, then 255 again: 33."
+-- "P numbers 0 and 256: 14; 255 forms, then 255 again: 33." But "Number 256 on the bench cards now forms a view, and 14
+-- remains for 0 alone." (02, A2) So does the greatest number, and again it is 33.
 unfoldable pub numberCard : Card
 numberCard =
     record {
-      given = numbersOf (openingOf 3 0) (wordsOf 5 0 0 1 ∷ wordsOf 5 0 256 1 ∷ wordsOf 5 0 255 1 ∷ wordsOf 5 0 255 1 ∷ []);
-      wanted = 14 ∷ 14 ∷ 0 ∷ 33 ∷ [];
+      given =
+          numbersOf (openingOf 3 0)
+          (wordsOf 5 0 0 1
+          ∷ wordsOf 5 0 255 1
+          ∷ wordsOf 5 0 255 1
+          ∷ wordsOf 5 0 256 1
+          ∷ wordsOf 5 0 maxNumber 1
+          ∷ wordsOf 5 0 maxNumber 1
+          ∷ []);
+      wanted = 14 ∷ 0 ∷ 33 ∷ 0 ∷ 0 ∷ 33 ∷ [];
+    }
+
+-- "The common log is promised over the whole longer range." (02, A2) One recorder forms and enters the view with the
+-- greatest number and exchanges its summary there; an entry is submitted, labelled, sent, placed, received, safe and
+-- confirmed.
+unfoldable pub lastViewCalls : List Words
+lastViewCalls =
+    wordsOf 5 0 maxNumber 1
+    ∷ wordsOf 6 1 maxNumber 0
+    ∷ wordsOf 4 1 0 0
+    ∷ wordsOf 7 1 maxNumber 0
+    ∷ wordsOf 8 1 0 0
+    ∷ wordsOf 1 1 700 0
+    ∷ wordsOf 2 1 0 0
+    ∷ wordsOf 3 1 0 0
+    ∷ wordsOf 7 1 maxNumber 0
+    ∷ wordsOf 8 1 0 0
+    ∷ wordsOf 9 1 0 0
+    ∷ wordsOf 9 1 0 0
+    ∷ wordsOf 10 1 0 0
+    ∷ []
+
+-- the answers; the label's view, the highest primary; what the deliver then gives
+unfoldable pub lastViewCard : Card
+lastViewCard =
+    let h = run hl3 (opened (openingOf 1 1)) lastViewCalls in
+    record {
+      given =
+          numbersOf (openingOf 1 1) lastViewCalls
+          ++ (h .entries .labelView 1 ∷ h .recorders .high 1 ∷ plain (step hl3 h (wordsOf 11 1 0 0) .answer) .values);
+      wanted =
+          0 ∷ 0 ∷ 0 ∷ 0 ∷ 0 ∷ 0 ∷ 0 ∷ 0 ∷ 0 ∷ 0 ∷ 0 ∷ 0 ∷ 0
+          ∷ 4294967295 ∷ 4294967295 ∷ 3 ∷ 1 ∷ 700 ∷ 0 ∷ 0 ∷ 0 ∷ [];
     }
 
 -- "P enter 2 from 3: 36."
@@ -168,6 +210,7 @@ cards =
     ∷ quorumCards
     ∷ marginCards
     ∷ numberCard
+    ∷ lastViewCard
     ∷ enterCard
     ∷ labelCard
     ∷ orderCard

@@ -10,10 +10,8 @@ pub const MAX_BUFFER: usize = MAX_ENTRIES;
 
 pub const MAX_ORDER: usize = MAX_ENTRIES;
 
-// "the formed views, at most 32"; "Numbers run from 1 to 255"
+// "the formed views, at most 32"; their numbers run from 1 to the greatest u32 (02, A2), and no code tests against it
 pub const MAX_VIEWS: usize = 32;
-
-pub const MAX_NUMBER: u32 = 255;
 
 // "a pending list (at most 65 messages)"; "A view's queue holds at most 72 messages"; "N, 1 to 8"
 pub const MAX_PENDING: usize = 65;

@@ -7,7 +7,7 @@ pub const KIND: u32 = 11;
 pub const RECORDER: u32 = 12;
 // an unused A or B is not 0
 pub const UNUSED: u32 = 13;
-// a view number is not 1 to 255
+// a view number is 0 (02, A2)
 pub const VIEW_NUMBER: u32 = 14;
 // the set of a new view is empty or names a recorder above N
 pub const SET: u32 = 15;

@@ -7,9 +7,9 @@ use mathlib.Core.List.{List}
 use lib.Dec.{eqb, leb}
 use lib.ListN.{length, getD, drop}
 use lib.Seq.{take-take}
-use borrow.Author.Tests.{eq-eqb, ne-eqb, lt-leb}
+use borrow.Author.Tests.{eq-eqb, ne-eqb, le-leb, lt-leb}
 use Rattle.model.specs.Hall.{maxSequence, maxEntries, maxBuffer, maxOrder, maxNumber, maxPending, maxQueue, maxRecorders, Payload}
-use Rattle.codec.specs.Bytes.{Block, part, allZero}
+use Rattle.codec.specs.Bytes.{part, allZero}
 use Rattle.codec.specs.Form.{mapped, renamed, guarded}
 use Rattle.codec.specs.Number.{value, number, byte, mark, between}
 use Rattle.codec.specs.Pair.{given}
@@ -24,7 +24,7 @@ use Rattle.store.specs.CellForms.{viewNumber, entryList, labelWhole, payloadFor
 use Rattle.store.specs.Masks.{setForm}
 use Rattle.store.specs.ViewForm.{viewForm}
 use Rattle.ranges.specs.CellParts.{wholeLabel, recorderRest}
-use Rattle.ranges.proofs.Parts.{pair-part, given-value, word-part}
+use Rattle.ranges.proofs.Parts.{pair-part, given-value, number-most, word-part}
 use Rattle.ranges.proofs.Loops.{cells-same, bounded-part}
 
 pub no-label : (g k : ℕ) → g ≡ 0 → wholeLabel g k ≡ eqb k 0
@@ -53,7 +53,7 @@ module _ (n o : ℕ) (b : List ℕ) where
       ap (λ (t : ℕ × (Payload × (ℕ × ℕ))). let x : EntryCell = record { sender = t .0; payload = t .1 .0; labelView = t .1 .1 .0; labelSeq = t .1 .1 .1 } in x)
       (low ∙ (λ i. (s i, (mid ∙ (λ j. (v j, (high ∙ (λ l. (g l, k l))) j))) i)))
 
-  pub entry-part : {m : ℕ} → o + entrySize ≤ m → Block m b → entryForm n .valid (part o entrySize b)
+  pub entry-part : o + entrySize ≤ length b → ((i : ℕ) → getD b i 0 < 256) → entryForm n .valid (part o entrySize b)
       ≡ (byte 1 n .valid (part o 1 b) && (viewNumber .valid (part (o + entryPayloadAt + payloadSize) numberSize b) && byte 0 maxSequence .valid (part (o + entryPayloadAt + payloadSize + numberSize) 1 b)))
       && wholeLabel (value (part (o + entryPayloadAt + payloadSize) numberSize b)) (getD b (o + entryPayloadAt + payloadSize + numberSize) 0)
   unfolding entryForm payloadForm guarded renamed mapped wholeLabel labelWhole
@@ -62,7 +62,7 @@ module _ (n o : ℕ) (b : List ℕ) where
       (pair-part (byte 1 n) _ o b
       (pair-part payloadForm _ (o + entryPayloadAt) b (pair-part viewNumber _ (o + entryPayloadAt + payloadSize) b refl)
       ∙ ap (λ (t : Bool). t && (viewNumber .valid (part (o + entryPayloadAt + payloadSize) numberSize b) && byte 0 maxSequence .valid (part (o + entryPayloadAt + payloadSize + numberSize) 1 b))) (word-part (o + entryPayloadAt) b (omega arith) k)))
-      (ap labelWhole (entry-value (omega (arith, k .len))))
+      (ap labelWhole (entry-value h))
 
 module _ (o : ℕ) (b : List ℕ) where
   pub summary-part : summaryForm .valid (part o summarySize b)
@@ -144,11 +144,13 @@ module _ (o : ℕ) (b : List ℕ) (h : o + sentSize ≤ length b) where
   pub sent-over : 1 < getD b o 0 → sentForm .valid (part o sentSize b) ≡ false
   sent-over l = sent-cells ∙ ap (λ (t : Bool). t && cells summaryForm (getD b o 0) 1 .valid (part (o + 1) summarySize b)) (lt-leb (getD b o 0) 1 l)
 
--- a view's number, 1 .. 255, and its set
-pub view-part : (n o : ℕ) (b : List ℕ) → viewForm n .valid (part o viewSize b)
-    ≡ (leb 1 (value (part o numberSize b)) && leb (value (part o numberSize b)) maxNumber) && byte 1 (2 ^ n - 1) .valid (part (o + viewSetAt) 1 b)
+-- a view's number, 1 on, and its set
+pub view-part : (n o : ℕ) (b : List ℕ) → o + viewSize ≤ length b → ((i : ℕ) → getD b i 0 < 256) → viewForm n .valid (part o viewSize b)
+    ≡ leb 1 (value (part o numberSize b)) && byte 1 (2 ^ n - 1) .valid (part (o + viewSetAt) 1 b)
 unfolding viewForm setForm mapped number
-view-part n o b =
-    let e : value (part o numberSize b) + 0 ≡ value (part o numberSize b) = omega arith in
+view-part n o b h k =
+    let v = value (part o numberSize b) in
+    let e : v + 0 ≡ v = omega arith in
     pair-part (number numberSize 0 1 maxNumber) (setForm n) o b refl
-    ∙ ap (λ (v : ℕ). between 1 maxNumber v && byte 1 (2 ^ n - 1) .valid (part (o + viewSetAt) 1 b)) e
+    ∙ ap (λ (t : Bool). t && byte 1 (2 ^ n - 1) .valid (part (o + viewSetAt) 1 b))
+    (ap (between 1 maxNumber) e ∙ ap (λ (t : Bool). leb 1 v && t) (le-leb v maxNumber (number-most o b (omega arith) k)) ∙ and-true (leb 1 v))

@@ -1,13 +1,13 @@
 -- What the code tests of the small parts of a hall's bytes: numbers, marks, sets of flags, pairs at an offset.
 -- Assumes nothing.
-use Prim.Native.Nat.{ℕ, zero, suc, _+_, _-_, _*_, _^_, _≤_, _<_}
+use Prim.Native.Nat.{ℕ, zero, suc, _+_, _-_, _*_, _≤_, _<_}
 use native.Mathlib.Omega.{arith}
 use native.Mathlib.Nat.{mul-one, not-suc-le-zero, le-of-suc-le-suc}
 use native.Mathlib.Numerals.{add-one}
 use mathlib.Core.Path.{_≡_, refl, sym, ap, ap₂, _∙_}
 use mathlib.Core.Bool.{Bool, true, _&&_, and-true}
 use mathlib.Core.List.{List, [], _∷_}
-use lib.Dec.{leb, ltb, leb·zero}
+use lib.Dec.{leb, ltb}
 use lib.ListN.{length, getD, take, drop, length-take, length-drop}
 use lib.Seq.{take-take}
 use borrow.Author.Tests.{le-leb}
@@ -20,8 +20,10 @@ use Rattle.codec.specs.Cells.{validAll, cells}
 use Rattle.codec.specs.ByteList.{allIn}
 use Rattle.codec.specs.Table.{table, flags}
 use Rattle.codec.proofs.BytesLaws.{drop-part, block-part}
-use Rattle.codec.proofs.NumberLaws.{value-lt, between-true, number-valid}
-use Rattle.store.specs.Layout.{numberSize}
+use Rattle.codec.proofs.NumberLaws.{value-lt, between-true, true-between, number-valid}
+use Rattle.model.specs.Hall.{maxNumber}
+use Rattle.store.specs.Layout.{numberSize, wordSize}
+use Rattle.store.specs.CellForms.{viewNumber}
 
 -- a pair at offset o: the first part, and then the second
 pub given-part : {A B : Type 0} {m n : ℕ} (H : Form A m) (G : A → Form B n) (o : ℕ) (b : List ℕ)
@@ -50,18 +52,25 @@ mark-part hi o b h =
     ∙ ap (λ (t : Bool). t && leb (getD b o 0 + 1) hi) (le-leb 1 (getD b o 0 + 1) (omega arith))
     ∙ ap (λ (j : ℕ). leb j hi) (add-one (getD b o 0))
 
--- a number of 0 .. hi in four bytes
-pub number-part : (hi o : ℕ) (b : List ℕ) → number numberSize 0 0 hi .valid (part o numberSize b) ≡ leb (value (part o numberSize b)) hi
-unfolding number
-number-part hi o b =
-    let e : value (part o numberSize b) + 0 ≡ value (part o numberSize b) = omega arith in
-    ap (between 0 hi) e ∙ ap (λ (t : Bool). t && leb (value (part o numberSize b)) hi) (leb·zero (value (part o numberSize b)))
+-- four bytes, whatever they are
+module _ (o : ℕ) (b : List ℕ) (h : o + numberSize ≤ length b) (k : (i : ℕ) → getD b i 0 < 256) where
+  -- are a number up to the greatest
+  pub number-most : value (part o numberSize b) ≤ maxNumber
+  number-most =
+      let whole : Block (length b) b = record { len = refl; byte = k } in
+      omega (arith, value-lt numberSize (part o numberSize b) (block-part o numberSize h whole))
 
--- any four bytes are a word
-pub word-part : (o : ℕ) (b : List ℕ) {m : ℕ} → o + 4 ≤ m → Block m b → word .valid (part o 4 b) ≡ true
-word-part o b h k =
-    number-part (2 ^ 32 - 1) o b
-    ∙ le-leb (value (part o 4 b)) (2 ^ 32 - 1) (omega (arith, value-lt 4 (part o 4 b) (block-part o 4 h k)))
+  -- so a word
+  pub word-part : word .valid (part o wordSize b) ≡ true
+  unfolding number
+  word-part =
+      let e : value (part o wordSize b) + 0 ≡ value (part o wordSize b) = omega arith in
+      ap (between 0 maxNumber) e ∙ true-between 0 maxNumber (value (part o wordSize b)) (omega arith) number-most
+
+  -- and a view number, or 0 for none
+  pub view-number-part : viewNumber .valid (part o numberSize b) ≡ true
+  unfolding viewNumber
+  view-number-part = word-part
 
 -- the second part of a pair, whose form does not go by the first
 pub pair-part : {A B : Type 0} {m n : ℕ} (H : Form A m) (G : Form B n) (o : ℕ) (b : List ℕ) {t : Bool}

@@ -1,4 +1,5 @@
 // Is each field of a hall's bytes in its range? 31 of document 01, "A hall's fields"; the cross rules are in validity.
+// Four bytes are always a view number or 0 for none (02, A2), so of numbers only those of formed views are tested.
 // The tests of a cell are gathered by `&`: all are made, with no branch. These functions are for the crates of this
 // repository: a `requires` is met by each caller's proof.
 ghost use mathlib.Core.Path.{_≡_};
@@ -14,7 +15,7 @@ ghost use Rattle.store.specs.Layout.{viewsAt, viewCells, entriesAt, entryCells,
 ghost use Rattle.store.specs.Layout.{storedLength, viewsSize, entriesSize, recordersSize, networkSize, queuesSize};
 ghost use Rattle.store.specs.Layout.{viewSize, entrySize, recorderSize, endpointSize, rowSize, summarySize};
 ghost use Rattle.store.specs.Layout.{queueSize, numberSize, setsSize, sentSize, queuedSize, messagesSize};
-ghost use Rattle.store.specs.CellForms.{viewNumber, entryForm, summaryForm, sentForm, recorderForm};
+ghost use Rattle.store.specs.CellForms.{entryForm, summaryForm, sentForm, recorderForm};
 ghost use Rattle.store.specs.CellForms.{endpointForm, queuedForm, queueForm};
 ghost use Rattle.store.specs.ViewForm.{viewForm, viewsForm};
 ghost use Rattle.store.specs.HallForm.{entriesForm, hallFields};
@@ -55,14 +56,6 @@ fn valid_mark(b: &[u8], at: usize, hi: u8) -> bool
     b[at] < hi
 }
 
-// Are the four bytes at an offset a view number, or 0 for none?
-fn valid_view_number(b: &[u8], at: usize) -> bool
-    requires { ⌜ at + numberSize ≤ length (now b) ⌝ }
-    ensures { λ r. ⌜ r ≡ viewNumber .valid (part at numberSize (now (b .entry))) ⌝ }
-{
-    codec::get_u32(b, at) <= limits::MAX_NUMBER
-}
-
 // Are the n bytes at an offset flags, 0 or 1?
 fn valid_flags(b: &[u8], at: usize, n: usize) -> bool
     requires { ⌜ at + n ≤ length (now b) ⌝ }
@@ -86,7 +79,6 @@ fn valid_entry(b: &[u8], at: usize, n: u8) -> bool
     let view = at + layout::ENTRY_PAYLOAD + layout::PAYLOAD;
     let seq = view + layout::NUMBER;
     valid_byte(b, at, 1, n)
-        & valid_view_number(b, view)
         & valid_byte(b, seq, 0, SEQUENCE)
         & whole_label(codec::get_u32(b, view), b[seq])
 }
@@ -101,7 +93,6 @@ fn valid_summary(b: &[u8], at: usize) -> bool
     valid_flags(b, at, limits::MAX_ENTRIES)
         & codec::valid_list(b, order, limits::MAX_ORDER, 1, ENTRIES)
         & valid_mark(b, confirm, ORDER_MARK)
-        & valid_view_number(b, confirm + 1)
 }
 
 // "At most one sent summary": a count, and the summary or zeros.
@@ -131,7 +122,6 @@ fn valid_recorder_rest(b: &[u8], at: usize) -> bool
     let heard = safe + limits::MAX_ENTRIES;
     valid_mark(b, at, ORDER_MARK)
         & valid_mark(b, report, ORDER_MARK)
-        & valid_view_number(b, high)
         & valid_flags(b, known, limits::MAX_ENTRIES)
         & valid_flags(b, safe, limits::MAX_ENTRIES)
         & valid_flags(b, heard, limits::MAX_RECORDERS)
@@ -147,8 +137,7 @@ fn valid_recorder(b: &[u8], at: usize) -> bool
     let next = phase + 1;
     let buffer = next + 1;
     let order = buffer + layout::BUFFER;
-    valid_view_number(b, at)
-        & valid_byte(b, phase, phases::NORMAL, phases::COLLECT)
+    valid_byte(b, phase, phases::NORMAL, phases::COLLECT)
         & valid_mark(b, next, SEQUENCE_MARK)
         & codec::valid_list(b, buffer, limits::MAX_BUFFER, 1, ENTRIES)
         & codec::valid_list(b, order, limits::MAX_ORDER, 1, ENTRIES)
@@ -292,15 +281,13 @@ fn valid_queues(b: &[u8], m: usize) -> bool
     codec::is_zero(b, layout::QUEUES + m * layout::QUEUE, layout::LENGTH)
 }
 
-// A view's number, 1 to 255, and set, "not empty and within N".
+// A view's number, 1 on, and set, "not empty and within N".
 fn valid_view(b: &[u8], at: usize, n: u8) -> bool
     requires { ⌜ (1 ≤ n) × (n ≤ maxRecorders) × (at + viewSize ≤ length (now b)) ⌝ }
     ensures { λ r. ⌜ r ≡ viewForm n .valid (part at viewSize (now (b .entry))) ⌝ }
 {
     let g = codec::get_u32(b, at);
-    (1 <= g)
-        & (g <= limits::MAX_NUMBER)
-        & valid_byte(b, at + layout::VIEW_SET, 1, all_of(n as u32) as u8)
+    (1 <= g) & valid_byte(b, at + layout::VIEW_SET, 1, all_of(n as u32) as u8)
 }
 
 // The m views of a hall of n recorders, and zeros.

@@ -1,6 +1,6 @@
 -- The words of a kind, as the code judges them: each test by the use of its word, and the four tests in their order.
 -- Assumes nothing.
-use Prim.Native.Nat.{ℕ, _*_, _/_, _^_, _≤_, _<_}
+use Prim.Native.Nat.{ℕ, zero, suc, _*_, _/_, _^_, _≤_, _<_}
 use native.Mathlib.Omega.{arith}
 use mathlib.Core.Path.{_≡_, refl, sym, ap, ap₂, _∙_}
 use mathlib.Core.Bool.{Bool, true, false, not, _&&_, _||_}
@@ -32,6 +32,14 @@ unfolding within
 above low high x l =
     ⊎-elim (λ t. le-ltb high x (leb-true x high t) ∙ sym (ap not t)) (λ f. lt-ltb high x (leb-false x high f) ∙ sym (ap not f)) (true-or-false (leb x high))
     ∙ sym (ap (λ t. not (t && leb x high)) (le-leb low x l))
+
+-- of the numbers up to high, 0 alone is outside 1 to high
+pub zero-alone : (high x : ℕ) → x ≤ high → eqb x 0 ≡ not (within 1 high x)
+unfolding within
+zero-alone high zero h = refl
+zero-alone high (suc x) h =
+    ne-eqb (suc x) 0 (λ e. omega arith)
+    ∙ sym (ap₂ (λ s t. not (s && t)) (le-leb 1 (suc x) (omega arith)) (le-leb (suc x) high h))
 
 -- a mask names a recorder above n where it has a bit there
 pub bits-above : (n b : ℕ) → not (eqb (b / 2 ^ n) 0) ≡ leb (2 ^ n) b

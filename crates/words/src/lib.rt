@@ -11,7 +11,6 @@ ghost use Rattle.model.specs.Kinds.{lastKind, uses, wrongRecorder, strayWord, w
 ghost use Rattle.model.specs.Opening.{wrongOpening, openingOf};
 ghost use Rattle.words.specs.Words.{kindAt, useOf, usesOf};
 use model::kinds;
-use model::limits::MAX_NUMBER;
 use model::limits::MAX_RECORDERS;
 use model::refusals;
 
@@ -88,12 +87,12 @@ fn stray_word(u: Use, w: u32) -> bool
     }
 }
 
-// 14: "a view number is not 1 to 255"
+// 14 "remains for 0 alone" (02, A2)
 fn wrong_number(u: Use, w: u32) -> bool
     ensures { λ x. ⌜ x ≡ wrongNumber (useOf u) w ⌝ }
 {
     match u {
-        Use::Number => is_outside(1, MAX_NUMBER, w),
+        Use::Number => w == 0,
         _ => false,
     }
 }

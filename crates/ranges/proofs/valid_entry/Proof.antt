@@ -1,8 +1,11 @@
 -- The fields, and the label. Assumes nothing.
 use denote.Ref.{now}
 use mathlib.Core.Bool.{and-assoc}
+use lib.ListN.{getD}
 use native.Mathlib.Omega.{arith}
-use mathlib.Core.Path.{refl}
+use Prim.Native.Nat.{ℕ, _+_, _<_}
+use Rattle.store.specs.Layout.{entryPayloadAt, payloadSize}
+use Rattle.ranges.proofs.Parts.{view-number-part}
 use Rattle.ranges.proofs.CellPartsLaws.{entry-part}
 use Rattle.ranges.proofs.valid_entry.Statement.{statement}
 use Rattle.ranges.proofs.valid_entry.Tie as tie
@@ -20,9 +23,6 @@ add-seq c = search needs
 valid-byte-requires : tie.Need-valid-byte-requires
 valid-byte-requires c κs = search needs
 
-valid-view-number-requires : tie.Need-valid-view-number-requires
-valid-view-number-requires c κs = search needs
-
 valid-byte-requires-2 : tie.Need-valid-byte-requires-2
 valid-byte-requires-2 c κs = search needs
 
@@ -37,8 +37,11 @@ whole-label-requires c κs = search needs
 
 returns : tie.Need-returns
 returns c =
-    let a = c .before .before .before .before .before .before .before .args in
-    simp and-assoc (cc (simp and-assoc at (entry-part (a .n) (a .at) (now (a .b)) (c .before .before .before .before .before .before .before .pre) (record { len = refl; byte = λ i. omega (arith, c .before .before .before .before .before .before .shared-slice-known .given i) }))))
+    let start = c .before .before .before .before .before .before in
+    let a = start .args in
+    let k : (i : ℕ) → getD (now (a .b)) i 0 < 256 = λ i. c .before .before .before .before .before .shared-slice-known .given i .fits in
+    let any = view-number-part (a .at + entryPayloadAt + payloadSize) (now (a .b)) (omega (arith, start .pre)) k in
+    simp and-assoc (cc (simp (and-assoc, any) at (entry-part (a .n) (a .at) (now (a .b)) (start .pre) k)))
 
 pub valid-entry-spec : {M : Type 1} → statement M
 valid-entry-spec =
@@ -48,7 +51,6 @@ valid-entry-spec =
     add-view-2
     add-seq
     valid-byte-requires
-    valid-view-number-requires
     valid-byte-requires-2
     get-u32-requires
     shared-slice-read-whole-label

@@ -1,6 +1,8 @@
 -- Its fields in turn. Assumes nothing.
 use denote.Ref.{now}
+use native.Mathlib.Omega.{arith}
 use mathlib.Core.Bool.{and-assoc}
+use Rattle.ranges.proofs.Parts.{view-number-part}
 use Rattle.ranges.proofs.CellPartsLaws.{recorder-part}
 use Rattle.ranges.proofs.valid_recorder.Statement.{statement}
 use Rattle.ranges.proofs.valid_recorder.Tie as tie
@@ -17,9 +19,6 @@ add-buffer c = search needs
 
 add-order : tie.Need-add-order
 add-order c = search needs
-
-valid-view-number-requires : tie.Need-valid-view-number-requires
-valid-view-number-requires c κs = search needs
 
 valid-byte-requires : tie.Need-valid-byte-requires
 valid-byte-requires c κs = search needs
@@ -40,7 +39,11 @@ valid-recorder-rest-requires : tie.Need-valid-recorder-rest-requires
 valid-recorder-rest-requires c κs = search needs
 
 returns : tie.Need-returns
-returns c = let a = c .before .before .before .before .before .before .before .args in simp and-assoc (cc (recorder-part (a .at) (now (a .b))))
+returns c =
+    let start = c .before .before .before .before .before .before in
+    let a = start .args in
+    let any = view-number-part (a .at) (now (a .b)) (omega (arith, start .pre)) (λ i. c .before .before .before .before .before .shared-slice-known .given i .fits) in
+    simp and-assoc (cc (simp any at (recorder-part (a .at) (now (a .b)))))
 
 pub valid-recorder-spec : {M : Type 1} → statement M
 valid-recorder-spec =
@@ -50,7 +53,6 @@ valid-recorder-spec =
     add-next
     add-buffer
     add-order
-    valid-view-number-requires
     valid-byte-requires
     valid-mark-requires
     valid-list-requires

@@ -1,7 +1,11 @@
 -- Its fields in turn. Assumes nothing.
+use denote.Ref.{now}
+use Prim.Native.Nat.{_+_}
+use native.Mathlib.Omega.{arith}
 use mathlib.Core.Bool.{and-assoc}
 use borrow.Author.Needs.{needs}
 use Rattle.ranges.specs.CellParts.{recorderRest}
+use Rattle.ranges.proofs.Parts.{view-number-part}
 use Rattle.ranges.proofs.valid_recorder_rest.Statement.{statement}
 use Rattle.ranges.proofs.valid_recorder_rest.Tie as tie
 
@@ -26,9 +30,6 @@ valid-mark-requires c κs = search needs
 valid-mark-requires-2 : tie.Need-valid-mark-requires-2
 valid-mark-requires-2 c κs = search needs
 
-valid-view-number-requires : tie.Need-valid-view-number-requires
-valid-view-number-requires c κs = search needs
-
 valid-flags-requires : tie.Need-valid-flags-requires
 valid-flags-requires c κs = search needs
 
@@ -46,7 +47,11 @@ valid-flags-requires-4 c κs = search needs
 
 returns : tie.Need-returns
 unfolding recorderRest
-returns c = simp and-assoc cc
+returns c =
+    let start = c .before .before .before .before .before .before .before in
+    let a = start .args in
+    let any = view-number-part (a .at + 1 + 1) (now (a .b)) (omega (arith, start .pre)) (λ i. c .before .before .before .before .before .before .shared-slice-known .given i .fits) in
+    simp (and-assoc, any) cc
 
 pub valid-recorder-rest-spec : {M : Type 1} → statement M
 valid-recorder-rest-spec =
@@ -59,7 +64,6 @@ valid-recorder-rest-spec =
     add-heard
     valid-mark-requires
     valid-mark-requires-2
-    valid-view-number-requires
     valid-flags-requires
     valid-flags-requires-2
     valid-flags-requires-3

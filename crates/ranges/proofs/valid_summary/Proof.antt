@@ -1,6 +1,11 @@
 -- Its fields in turn. Assumes nothing.
 use denote.Ref.{now}
-use mathlib.Core.Bool.{and-assoc}
+use Prim.Native.Nat.{_+_}
+use native.Mathlib.Omega.{arith}
+use mathlib.Core.Bool.{and-assoc, and-true}
+use Rattle.model.specs.Hall.{maxOrder}
+use Rattle.store.specs.Layout.{listSize, summaryOrderAt}
+use Rattle.ranges.proofs.Parts.{view-number-part}
 use Rattle.ranges.proofs.CellPartsLaws.{summary-part}
 use Rattle.ranges.proofs.valid_summary.Statement.{statement}
 use Rattle.ranges.proofs.valid_summary.Tie as tie
@@ -21,14 +26,12 @@ valid-list-requires c κs = search needs
 valid-mark-requires : tie.Need-valid-mark-requires
 valid-mark-requires c κs = search needs
 
-add-valid-view-number : tie.Need-add-valid-view-number
-add-valid-view-number c = search needs
-
-valid-view-number-requires : tie.Need-valid-view-number-requires
-valid-view-number-requires c κs = search needs
-
 returns : tie.Need-returns
-returns c = let a = c .before .before .before .before .before .args in simp and-assoc (cc (summary-part (a .at) (now (a .b))))
+returns c =
+    let start = c .before .before .before .before in
+    let a = start .args in
+    let any = view-number-part (a .at + summaryOrderAt + listSize maxOrder + 1) (now (a .b)) (omega (arith, start .pre)) (λ i. c .before .before .before .shared-slice-known .given i .fits) in
+    simp and-assoc (cc (simp (any, and-true) at (summary-part (a .at) (now (a .b)))))
 
 pub valid-summary-spec : {M : Type 1} → statement M
 valid-summary-spec =
@@ -39,6 +42,4 @@ valid-summary-spec =
     valid-flags-requires
     valid-list-requires
     valid-mark-requires
-    add-valid-view-number
-    valid-view-number-requires
     returns)

@@ -27,7 +27,10 @@ valid-byte-requires : tie.Need-valid-byte-requires
 valid-byte-requires c κs = search needs
 
 returns : tie.Need-returns
-returns c = let a = c .before .before .before .before .args in cc (view-part (a .n) (a .at) (now (a .b)))
+returns c =
+    let start = c .before .before .before .before in
+    let a = start .args in
+    cc (view-part (a .n) (a .at) (now (a .b)) (start .pre .2) (λ i. c .before .before .before .shared-slice-known .given i .fits))
 
 pub valid-view-spec : {M : Type 1} → statement M
 valid-view-spec =
