@@ -6,7 +6,7 @@ use mathlib.Core.Bool.{true, false}
 use mathlib.Core.List.{List, [], _∷_, _++_, map}
 use Rattle.quorum.specs.Sets.{inMask}
 use Rattle.quorum.specs.Votes.{margin, quorum, builtIn}
-use Rattle.model.specs.Hall.{maxNumber, Entries, Service, Recorders, Hall}
+use Rattle.model.specs.Hall.{Entries, Service, Recorders, Hall}
 use Rattle.model.specs.Answers.{plain, word}
 use Rattle.model.specs.Opening.{Opening, openingOf, openRefusal, opened}
 use Rattle.model.specs.Call.{Words, wordsOf, hl3, broken, step, call}
@@ -112,8 +112,8 @@ numberCard =
           ∷ wordsOf 5 0 255 1
           ∷ wordsOf 5 0 255 1
           ∷ wordsOf 5 0 256 1
-          ∷ wordsOf 5 0 maxNumber 1
-          ∷ wordsOf 5 0 maxNumber 1
+          ∷ wordsOf 5 0 4294967295 1
+          ∷ wordsOf 5 0 4294967295 1
           ∷ []);
       wanted = 14 ∷ 0 ∷ 33 ∷ 0 ∷ 0 ∷ 33 ∷ [];
     }
@@ -123,15 +123,15 @@ numberCard =
 -- confirmed.
 unfoldable pub lastViewCalls : List Words
 lastViewCalls =
-    wordsOf 5 0 maxNumber 1
-    ∷ wordsOf 6 1 maxNumber 0
+    wordsOf 5 0 4294967295 1
+    ∷ wordsOf 6 1 4294967295 0
     ∷ wordsOf 4 1 0 0
-    ∷ wordsOf 7 1 maxNumber 0
+    ∷ wordsOf 7 1 4294967295 0
     ∷ wordsOf 8 1 0 0
     ∷ wordsOf 1 1 700 0
     ∷ wordsOf 2 1 0 0
     ∷ wordsOf 3 1 0 0
-    ∷ wordsOf 7 1 maxNumber 0
+    ∷ wordsOf 7 1 4294967295 0
     ∷ wordsOf 8 1 0 0
     ∷ wordsOf 9 1 0 0
     ∷ wordsOf 9 1 0 0
