@@ -91,7 +91,7 @@ fn new_number(random: &mut Random, hall: &Hall) -> u32 {
     match random.below(12) {
         0 => last,
         1 => random.between(1, 255),
-        _ => last + random.between(1, 3),
+        _ => last.saturating_add(random.between(1, 3)),
     }
 }
 

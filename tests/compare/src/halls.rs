@@ -3,7 +3,7 @@
 
 use crate::random::Random;
 use reference::hall::{
-    LAST_ORDER_MARK, LAST_QUEUE_MARK, LAST_SEQ, LAST_VIEW, MOST_ENTRIES, MOST_LABELS, MOST_PENDING,
+    LAST_ORDER_MARK, LAST_QUEUE_MARK, LAST_SEQ, MOST_ENTRIES, MOST_LABELS, MOST_PENDING,
     MOST_QUEUED, MOST_VIEWS,
 };
 use reference::{Entry, Hall, Label, Message, Phase, Queued, Recorder, Seat, Summary, View};
@@ -61,7 +61,7 @@ fn entries(random: &mut Random, style: &Style) -> Vec<Entry> {
     for _ in 0..count {
         let sender = random.between(1, style.n);
         let label = Label {
-            view: random.between(1, if style.low { 4 } else { LAST_VIEW }),
+            view: random.between(1, if style.low { 4 } else { u32::MAX }),
             seq: random.between(1, LAST_SEQ),
             sender,
         };
@@ -113,11 +113,7 @@ fn numbers(random: &mut Random, style: &Style) -> Vec<u32> {
     };
     let mut numbers: Vec<u32> = Vec::new();
     while numbers.len() < count {
-        let most = if style.low && count <= 4 {
-            6
-        } else {
-            LAST_VIEW
-        };
+        let most = if style.low && count <= 4 { 6 } else { u32::MAX };
         let number = random.between(1, most);
         if !numbers.contains(&number) {
             numbers.push(number);
@@ -132,7 +128,7 @@ fn summary(random: &mut Random, style: &Style, names: &Names) -> Summary {
         known: names.set(random),
         order: names.list(random, style),
         confirm: random.between(1, LAST_ORDER_MARK),
-        high: random.between(0, if style.low { 3 } else { LAST_VIEW }),
+        high: random.between(0, if style.low { 3 } else { u32::MAX }),
     }
 }
 
@@ -259,7 +255,7 @@ fn recorder(
         safe_labels: names.set(random),
         confirm: mark(random),
         report: mark(random),
-        high: random.between(0, LAST_VIEW),
+        high: random.between(0, u32::MAX),
         heard: sources(random, members & sent),
         safe_sources: sources(random, members),
     }

@@ -33,7 +33,7 @@ impl Random {
     }
 
     pub fn between(&mut self, least: u32, most: u32) -> u32 {
-        least + self.below((most - least + 1) as usize) as u32
+        least + self.below(most as usize - least as usize + 1) as u32
     }
 
     pub fn one_in(&mut self, limit: usize) -> bool {

@@ -56,7 +56,7 @@ fn listing(file: &[u8], counts: &mut Counts) -> Result<String, Difference> {
 
 pub fn all(_: u64, counts: &mut Counts) -> Result<(), Difference> {
     let runs = run_files();
-    if runs.len() < 100 {
+    if runs.len() < 131 {
         return Err(format!("only {} vectors", runs.len()));
     }
     for run in runs {

@@ -7,13 +7,9 @@
 
 use crate::hall::{
     all_recorders, holds_recorder, lies_within, Entry, Hall, Message, Queued, Recorder, Seat,
-    Summary, View, LAST_ORDER_MARK, LAST_QUEUE_MARK, LAST_SEQ, LAST_VIEW, MOST_ENTRIES,
-    MOST_LABELS, MOST_PENDING, MOST_QUEUED, MOST_RECORDERS, MOST_VIEWS,
+    Summary, View, LAST_ORDER_MARK, LAST_QUEUE_MARK, LAST_SEQ, MOST_ENTRIES, MOST_LABELS,
+    MOST_PENDING, MOST_QUEUED, MOST_RECORDERS, MOST_VIEWS,
 };
-
-fn is_view_number(number: u32) -> bool {
-    (1..=LAST_VIEW).contains(&number)
-}
 
 fn is_queue_mark(mark: u32) -> bool {
     (1..=LAST_QUEUE_MARK).contains(&mark)
@@ -40,9 +36,7 @@ impl Hall {
 
     fn check_entry(&self, entry: &Entry) -> bool {
         let label_fits = entry.label.is_none_or(|label| {
-            is_view_number(label.view)
-                && (1..=LAST_SEQ).contains(&label.seq)
-                && label.sender == entry.sender
+            label.view != 0 && (1..=LAST_SEQ).contains(&label.seq) && label.sender == entry.sender
         });
         (1..=self.n).contains(&entry.sender) && label_fits
     }
@@ -85,7 +79,7 @@ impl Hall {
     }
 
     fn check_view(&self, view: &View) -> bool {
-        is_view_number(view.number)
+        view.number != 0
             && view.members != 0
             && lies_within(view.members, all_recorders(self.n))
             && view.seats.len() == self.n as usize
@@ -119,7 +113,6 @@ impl Hall {
         self.check_entry_set(summary.known)
             && self.check_labels(&summary.order)
             && is_order_mark(summary.confirm)
-            && summary.high <= LAST_VIEW
     }
 
     /// Whether a member is the source, of a labelled entry or a sent summary.
@@ -147,7 +140,6 @@ impl Hall {
             && self.check_labels(&recorder.order)
             && is_order_mark(recorder.confirm)
             && is_order_mark(recorder.report)
-            && recorder.high <= LAST_VIEW
     }
 
     /// Current view, sources heard and sources safe.

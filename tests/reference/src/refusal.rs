@@ -6,7 +6,7 @@ pub const KIND: u32 = 11;
 pub const RECORDER: u32 = 12;
 /// An unused argument is not 0.
 pub const UNUSED: u32 = 13;
-/// A view number is not 1 to 255.
+/// A view number is 0.
 pub const VIEW_NUMBER: u32 = 14;
 /// The set of a new view is empty or names a recorder above N.
 pub const VIEW_SET: u32 = 15;

@@ -80,17 +80,45 @@ fn margins() {
 fn view_numbers() {
     let mut hall = open(2, 0).unwrap();
     assert_eq!(hall.step(5, 0, 0, 1), refused(14));
-    assert_eq!(hall.step(5, 0, 256, 1), refused(14));
     assert_eq!(hall.step(5, 0, 2, 3), DONE);
     assert_eq!(hall.step(5, 0, 3, 3), DONE);
     assert_eq!(hall.step(6, 1, 3, 0), DONE);
     assert_eq!(hall.step(6, 1, 2, 0), refused(36));
-    assert_eq!(hall.step(5, 0, 255, 1), DONE);
-    assert_eq!(hall.step(5, 0, 255, 1), refused(33));
-    assert_eq!(hall.step(5, 0, 255, 4), refused(15));
-    assert_eq!(hall.step(5, 0, 255, 0), refused(15));
-    assert_eq!(hall.step(6, 2, 255, 0), refused(35));
-    assert_eq!(hall.step(7, 2, 254, 0), refused(34));
+    for number in [255, 256, u32::MAX] {
+        assert_eq!(hall.step(5, 0, number, 1), DONE);
+        assert_eq!(hall.step(5, 0, number, 1), refused(33));
+    }
+    assert_eq!(hall.step(5, 0, 256, 4), refused(15));
+    assert_eq!(hall.step(5, 0, 256, 0), refused(15));
+    assert_eq!(hall.step(6, 2, u32::MAX, 0), refused(35));
+    for kind in [6, 7] {
+        assert_eq!(hall.step(kind, 1, 0, 0), refused(14));
+        assert_eq!(hall.step(kind, 1, 254, 0), refused(34));
+        assert_eq!(hall.step(kind, 1, u32::MAX - 1, 0), refused(34));
+    }
+}
+
+/// An entry is labelled, received and shown in the view with the last number.
+#[test]
+fn the_last_view_number() {
+    let last = u32::MAX;
+    let mut hall = open(1, 0).unwrap();
+    assert_eq!(hall.step(5, 0, last, 1), DONE);
+    let exchange = [(6, last), (4, 0), (7, last), (8, 0)];
+    assert!(all_accepted(&steps_at_1(&mut hall, &exchange)));
+    let send = [(1, 5), (2, 0), (3, 0), (7, last)];
+    assert!(all_accepted(&steps_at_1(&mut hall, &send)));
+    let entry = Answer::Entry {
+        source: 1,
+        view: last,
+        seq: 1,
+        sender: 1,
+        value: 5,
+    };
+    assert_eq!(hall.step(8, 1, 0, 0), entry);
+    let page = hall.page(1, 1).unwrap();
+    assert_eq!((page.view, page.high, page.label_view), (last, last, last));
+    assert_eq!(hall.step(6, 1, last, 0), refused(36));
 }
 
 #[test]
@@ -116,7 +144,7 @@ fn order_of_refusals() {
     assert_eq!(hall.step(6, 1, 0, 1), refused(13));
     assert_eq!(hall.step(1, 1, 7, 1), refused(13));
     assert_eq!(hall.step(10, 1, 1, 0), refused(13));
-    assert_eq!(hall.step(5, 0, 256, 0), refused(14));
+    assert_eq!(hall.step(5, 0, 0, 0), refused(14));
     assert_eq!(hall.step(10, 1, 0, 0), refused(38));
     assert_eq!(hall.step(11, 1, 0, 0), refused(38));
 }

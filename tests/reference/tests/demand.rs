@@ -48,6 +48,8 @@ struct Style {
     weights: [u32; 11],
     /// Steps for which one recorder is slow to receive and to enter.
     slow_for: u32,
+    /// How far a new view's number is above the last one, at most.
+    apart: u32,
 }
 
 impl Style {
@@ -60,6 +62,7 @@ impl Style {
             steps: if n > 4 { 2 * steps } else { steps },
             weights: [submit, 60, 60, 60, form, 60, 150, 300, 250, 100, 60],
             slow_for: random.pick(&[200, 400, 800]),
+            apart: random.pick(&[3, 300, 1 << 28]),
         }
     }
 
@@ -102,13 +105,19 @@ impl Style {
             actions::FORM => [
                 kind,
                 0,
-                new_number(random, hall),
+                self.new_number(random, hall),
                 new_set(random, hall.n, slow),
             ],
             actions::ENTER => [kind, r, view_to_enter(random, hall, r), 0],
             actions::PLACE => [kind, r, view_to_place(random, hall, r), 0],
             _ => [kind, r, 0, 0],
         }
+    }
+
+    /// A number above the formed ones, or the greatest if that is formed.
+    fn new_number(&self, random: &mut Random, hall: &Hall) -> u32 {
+        let last = hall.views.last().map_or(0, |view| view.number);
+        last.saturating_add(random.between(1, self.apart))
     }
 }
 
@@ -117,11 +126,6 @@ fn junk_action(random: &mut Random) -> [u32; 4] {
     let mut word = || random.pick(&WORDS);
     let [r, a, b] = [word(), word(), word()];
     [random.below(13), r, a, b]
-}
-
-fn new_number(random: &mut Random, hall: &Hall) -> u32 {
-    let last = hall.views.last().map_or(0, |view| view.number);
-    last + random.between(1, 3)
 }
 
 /// All recorders, all but the slow one, or a random set, so that halls split
@@ -166,6 +170,8 @@ struct Counts {
     delivered: u64,
     /// Delivered in a later view than the one of the label.
     delivered_later: u64,
+    /// Delivered with a view number in the label that takes four bytes.
+    delivered_far: u64,
     /// Views completed by a recorder, with a quorum and without.
     primary_completed: u64,
     other_completed: u64,
@@ -263,8 +269,12 @@ impl Run {
         assert_eq!(answer, Answer::From { sender, value });
         self.delivered[r as usize - 1].push(index);
         self.counts.delivered += 1;
-        if self.hall.label_of(index).view < self.hall.recorder(r).current {
+        let labelled_in = self.hall.label_of(index).view;
+        if labelled_in < self.hall.recorder(r).current {
             self.counts.delivered_later += 1;
+        }
+        if labelled_in >= 1 << 24 {
+            self.counts.delivered_far += 1;
         }
     }
 
@@ -370,6 +380,7 @@ fn add(sum: &mut Counts, counts: Counts) {
     sum.accepted += counts.accepted;
     sum.delivered += counts.delivered;
     sum.delivered_later += counts.delivered_later;
+    sum.delivered_far += counts.delivered_far;
     sum.primary_completed += counts.primary_completed;
     sum.other_completed += counts.other_completed;
     sum.completed_late += counts.completed_late;
@@ -388,6 +399,7 @@ fn random_runs_keep_the_common_order() {
     assert!(sum.accepted >= 100_000);
     assert!(sum.delivered >= 8_000);
     assert!(sum.delivered_later >= 5_000);
+    assert!(sum.delivered_far >= 1_000);
     assert!(sum.primary_completed >= 1_500);
     assert!(sum.other_completed >= 400);
     assert!(sum.completed_late >= 15);

@@ -7,6 +7,14 @@ use reference::{
 const DONE: Answer = Answer::Done;
 /// The set of the entries 0 to 63.
 const ALL_ENTRIES: u64 = u64::MAX;
+/// Pairs of view numbers about the edges of their bytes and of their range.
+const HIGHER_AND_LOWER: [(u32, u32); 5] = [
+    (256, 255),
+    (1 << 16, (1 << 16) - 1),
+    (1 << 24, (1 << 24) - 1),
+    (1 << 31, (1 << 31) - 1),
+    (u32::MAX, u32::MAX - 1),
+];
 
 fn labelled(view: u32, seq: u32, sender: u32) -> Entry {
     Entry {
@@ -156,10 +164,27 @@ fn the_last_summary_without_a_quorum() {
 
 #[test]
 fn a_higher_primary_beats_a_greater_number() {
-    let mut hall = before_the_last_summary(3);
-    hall.views[0].seat_mut(1).summary.as_mut().unwrap().high = 7;
-    assert_accepted(&mut hall, 8, 1, 0);
-    assert_eq!(hall.recorder(1).order, [3, 2, 1]);
+    for (high, lower) in HIGHER_AND_LOWER.into_iter().chain([(7, 6)]) {
+        let mut hall = before_the_last_summary(3);
+        let view = &mut hall.views[0];
+        view.seat_mut(1).summary.as_mut().unwrap().high = high;
+        view.seat_mut(2).summary.as_mut().unwrap().high = lower;
+        assert_accepted(&mut hall, 8, 1, 0);
+        assert_eq!(hall.recorder(1).order, [3, 2, 1]);
+    }
+}
+
+/// Labels of such views have their places in the order by the whole number.
+#[test]
+fn labels_compare_by_the_whole_view_number() {
+    for (high, lower) in HIGHER_AND_LOWER {
+        let mut hall = before_the_last_summary(0);
+        hall.entries[1] = labelled(high, 1, 1);
+        hall.entries[2] = labelled(lower, 64, 1);
+        hall.entries[3] = labelled(lower, 63, 1);
+        assert_accepted(&mut hall, 8, 1, 0);
+        assert_eq!(hall.recorder(1).order, [3, 2, 1]);
+    }
 }
 
 /// Recorder 1 gets notice of its own summary, all others being safe.
@@ -338,12 +363,28 @@ fn valid_with(change: impl Fn(&mut Hall)) -> bool {
 fn valid_halls() {
     assert!(valid_with(|_| ()));
     assert!(valid_with(|h| h.entries[63].sender = 3));
-    assert!(valid_with(|h| h.views.push(View::formed(3, 255, 0b100))));
     assert!(valid_with(|h| h.recorders[0].known = u64::MAX >> 1));
     assert!(valid_with(|h| h.recorders[0].next_seq = 65));
     assert!(valid_with(
         |h| h.views[0].seats[1].pending = vec![Message::Entry(0); 65]
     ));
+}
+
+/// A number past a byte is that of a view, formed or not.
+#[test]
+fn valid_halls_with_any_view_number() {
+    for number in [255, 256, 1 << 16, 1 << 24, 1 << 31, u32::MAX] {
+        assert!(valid_with(|h| {
+            h.views.push(View::formed(3, number, 0b100));
+            h.recorders[2].current = number;
+        }));
+        assert!(valid_with(|h| h.entries[0] = labelled(number, 1, 1)));
+        assert!(valid_with(|h| h.recorders[0].high = number));
+        assert!(valid_with(|h| {
+            let summary = summary(0, vec![], 1, number);
+            h.views[0].seat_mut(1).summary = Some(summary);
+        }));
+    }
 }
 
 #[test]
@@ -353,7 +394,6 @@ fn halls_with_wrong_entries() {
     assert!(!valid_with(|h| h.entries[0].sender = 2));
     assert!(!valid_with(|h| h.entries[0].label = h.entries[1].label));
     assert!(!valid_with(|h| h.entries[0] = labelled(0, 1, 1)));
-    assert!(!valid_with(|h| h.entries[0] = labelled(256, 1, 1)));
     assert!(!valid_with(|h| h.entries[0] = labelled(1, 0, 1)));
     assert!(!valid_with(|h| h.entries[0] = labelled(1, 65, 1)));
     assert!(!valid_with(|h| h.entries.push(labelled(1, 1, 1))));
@@ -363,7 +403,7 @@ fn halls_with_wrong_entries() {
 fn halls_with_wrong_views() {
     assert!(!valid_with(|h| h.views[0].members = 0b1011));
     assert!(!valid_with(|h| h.views.push(View::formed(3, 9, 1))));
-    assert!(!valid_with(|h| h.views.push(View::formed(3, 256, 1))));
+    assert!(!valid_with(|h| h.views.insert(0, View::formed(3, 0, 1))));
     assert!(!valid_with(|h| h.views.push(View::formed(3, 10, 0))));
     assert!(!valid_with(|h| h.views.push(View::formed(2, 10, 1))));
     assert!(!valid_with(|h| h.views[0].seats[2].safe = 0));
@@ -406,7 +446,6 @@ fn halls_with_wrong_summaries() {
     assert!(wrong(summary(0, vec![0; 65], 1, 0)));
     assert!(wrong(summary(0, vec![], 0, 0)));
     assert!(wrong(summary(0, vec![], 66, 0)));
-    assert!(wrong(summary(0, vec![], 1, 256)));
 }
 
 #[test]
@@ -417,6 +456,7 @@ fn halls_with_wrong_recorders() {
     assert!(!valid_with(|h| h.recorders.push(Recorder::starting(0))));
     assert!(!valid_with(|h| h.recorders[2].current = 9));
     assert!(!valid_with(|h| h.recorders[0].current = 8));
+    assert!(!valid_with(|h| h.recorders[0].current = 9 + 256));
     assert!(!valid_with(|h| h.recorders[0].heard = 0b10));
     assert!(!valid_with(|h| h.recorders[0].safe_sources = 0b100));
     assert!(!valid_with(|h| h.recorders[2].heard = 0b01));
@@ -430,5 +470,4 @@ fn halls_with_wrong_recorders() {
     assert!(!valid_with(|h| h.recorders[0].next_seq = 66));
     assert!(!valid_with(|h| h.recorders[0].confirm = 0));
     assert!(!valid_with(|h| h.recorders[0].report = 66));
-    assert!(!valid_with(|h| h.recorders[0].high = 256));
 }

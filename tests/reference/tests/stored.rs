@@ -8,7 +8,8 @@ use std::path::Path;
 fn halls_of(name: &str, stride: usize) -> Vec<Hall> {
     let path = Path::new(env!("CARGO_MANIFEST_DIR"))
         .join("../vectors")
-        .join(name);
+        .join(name)
+        .with_extension("run");
     let (n, founders, actions) = read_run_file(&fs::read(path).unwrap()).unwrap();
     let mut hall = open(n, founders).unwrap();
     let mut halls = vec![hall.clone()];
@@ -38,7 +39,7 @@ fn opened_halls_read_back() {
 
 #[test]
 fn halls_of_runs_read_back() {
-    for name in ["long-1.run", "long-2.run", "long-3.run", "long-4.run"] {
+    for name in ["long-1", "long-2", "long-3", "long-4", "a2-long-1"] {
         for hall in halls_of(name, 50) {
             assert_eq!(stored::read(&stored::form(&hall)), Some(hall));
         }
@@ -48,7 +49,7 @@ fn halls_of_runs_read_back() {
 /// What is read writes the same bytes, also where a byte was changed.
 #[test]
 fn a_form_is_the_only_one() {
-    let hall = halls_of("long-3.run", 1_000).pop().unwrap();
+    let hall = halls_of("long-3", 1_000).pop().unwrap();
     let mut bytes = stored::form(&hall);
     let mut still_halls = 0;
     for at in 0..stored::LENGTH {
@@ -63,6 +64,29 @@ fn a_form_is_the_only_one() {
         bytes[at] = byte;
     }
     assert!(still_halls > 100);
+}
+
+/// Each of the four bytes of a number may be anything: of a view that nobody has
+/// entered, of a label, of a recorder's highest primary and of a summary's.
+#[test]
+fn numbers_of_four_bytes() {
+    let mut hall = open(1, 0).unwrap();
+    hall.step(1, 1, 5, 0);
+    hall.step(2, 1, 0, 0);
+    hall.step(5, 0, 2, 1);
+    hall.step(6, 1, 2, 0);
+    hall.step(4, 1, 0, 0);
+    hall.step(5, 0, 3, 1);
+    let form = stored::form(&hall);
+    for (at, number) in [(12, 3), (168, 1), (941, 1), (3_493, 1)] {
+        assert_eq!(form[at..at + 4], [number, 0, 0, 0]);
+        for at in at..at + 4 {
+            let mut bytes = form.clone();
+            bytes[at] = 255;
+            let read = stored::read(&bytes).expect("it is a hall");
+            assert_eq!(stored::form(&read), bytes);
+        }
+    }
 }
 
 #[test]
