@@ -64,9 +64,15 @@ fn views_pending(hall: &Hall, r: u32) -> Vec<u32> {
     pending.map(|view| view.number).collect()
 }
 
+/// The number of a formed view, now and then with one bit changed.
 fn any_view(random: &mut Random, hall: &Hall) -> u32 {
     let numbers: Vec<u32> = hall.views.iter().map(|view| view.number).collect();
-    random.pick_any(&numbers).unwrap_or(1)
+    let number = random.pick_any(&numbers).unwrap_or(1);
+    if random.one_in(4) {
+        number ^ 1 << random.below(32)
+    } else {
+        number
+    }
 }
 
 fn view_to_enter(random: &mut Random, hall: &Hall, r: u32) -> u32 {
@@ -85,12 +91,36 @@ fn view_to_place(random: &mut Random, hall: &Hall, r: u32) -> u32 {
     }
 }
 
-/// A number above the formed ones, mostly.
+/// Words at the edges of recorders, of kinds and of the bytes of a number.
+const EDGES: [u32; 17] = [
+    0,
+    1,
+    2,
+    8,
+    9,
+    11,
+    12,
+    255,
+    256,
+    257,
+    65_535,
+    65_536,
+    (1 << 24) - 1,
+    1 << 24,
+    1 << 31,
+    u32::MAX - 1,
+    u32::MAX,
+];
+
+/// A number above the formed ones, mostly: one of the next, or the next whose low
+/// bytes are 0.
 fn new_number(random: &mut Random, hall: &Hall) -> u32 {
     let last = hall.views.last().map_or(0, |view| view.number);
-    match random.below(12) {
-        0 => last,
-        1 => random.between(1, 255),
+    match random.below(24) {
+        0 | 1 => last,
+        2 => random.word() >> random.below(32),
+        3 => random.pick(&EDGES),
+        4 | 5 => (last | random.pick(&[0xff, 0xffff, 0xff_ffff])).saturating_add(1),
         _ => last.saturating_add(random.between(1, 3)),
     }
 }
@@ -107,22 +137,6 @@ fn new_set(random: &mut Random, n: u32) -> u32 {
 
 /// A word at an edge, or any word.
 fn junk_word(random: &mut Random) -> u32 {
-    const EDGES: [u32; 14] = [
-        0,
-        1,
-        2,
-        8,
-        9,
-        11,
-        12,
-        255,
-        256,
-        257,
-        1 << 31,
-        u32::MAX,
-        u32::MAX - 1,
-        1 << 8,
-    ];
     match random.below(8) {
         0 => random.word(),
         1 => random.between(0, 300),

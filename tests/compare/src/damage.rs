@@ -7,6 +7,7 @@ use crate::counts::Counts;
 use crate::halls;
 use crate::pair::{random_room, Difference, Pair};
 use crate::random::Random;
+use reference::calls::ANSWER_LENGTH;
 use reference::stored::LENGTH;
 use reference::{open, stored, Hall};
 
@@ -56,9 +57,9 @@ fn limit(at: usize) -> u8 {
     match at {
         0 => 8,
         1 => 32,
-        2..=161 => [255, 0, 0, 0, 255][(at - 2) % 5],
+        2..=161 => 255,
         162 => 64,
-        163..=802 => [8, 255, 255, 255, 255, 255, 0, 0, 0, 64][(at - 163) % 10],
+        163..=802 => [8, 255, 255, 255, 255, 255, 255, 255, 255, 64][(at - 163) % 10],
         803..=3_090 => recorder_limit((at - 803) % 286),
         3_091..=55_058 => place_limit((at - 3_091) % 203),
         _ => match (at - 55_059) % 145 {
@@ -71,8 +72,7 @@ fn limit(at: usize) -> u8 {
 
 fn recorder_limit(at: usize) -> u8 {
     match at {
-        0 | 138 => 255,
-        1..=3 | 139..=141 => 0,
+        0..=3 | 138..=141 => 255,
         4 => 2,
         5..=137 => 64,
         _ => 1,
@@ -85,8 +85,7 @@ fn place_limit(at: usize) -> u8 {
         1..=65 | 133..=198 => 64,
         66 | 67 => 72,
         68..=132 => 1,
-        199 => 255,
-        _ => 0,
+        _ => 255,
     }
 }
 
@@ -139,6 +138,54 @@ pub fn some_values(seed: u64, counts: &mut Counts) -> Result<(), Difference> {
 pub fn all_values(seed: u64, counts: &mut Counts) -> Result<(), Difference> {
     let mut random = Random::new("damage all", seed);
     bytes(&mut random, ((seed % 256) as usize, 256, true), counts)
+}
+
+/// Three views of one recorder, which is in the second and has sent its summary
+/// there, and an entry with a label.
+const NUMBERED: [[u32; 4]; 6] = [
+    [1, 1, 5, 0],
+    [2, 1, 0, 0],
+    [5, 0, 2, 1],
+    [6, 1, 2, 0],
+    [4, 1, 0, 0],
+    [5, 0, 3, 1],
+];
+
+/// Where its numbers are, each with the least and the greatest that it may be: of
+/// the third view, of the label, the current view, the recorder's highest primary
+/// and the summary's.
+const NUMBERS: [(usize, u32, u32); 5] = [
+    (12, 3, u32::MAX),
+    (168, 1, u32::MAX),
+    (803, 0, 3),
+    (941, 0, u32::MAX),
+    (3_493, 0, u32::MAX),
+];
+
+/// Each of the four bytes of a number, set to all values.
+pub fn numbers(_: u64, counts: &mut Counts) -> Result<(), Difference> {
+    let mut pair = Pair::of_bytes(vec![0; LENGTH], LENGTH);
+    pair.open(1, 1, counts)?;
+    for action in NUMBERED {
+        pair.step(action, ANSWER_LENGTH, counts)?;
+    }
+    let form = pair.lent().to_vec();
+    for (at, least, most) in NUMBERS {
+        for (k, byte) in (0..4).flat_map(|k| (0..=255).map(move |byte| (k, byte))) {
+            pair.change(|area| {
+                area.copy_from_slice(&form);
+                area[at + k] = byte;
+            });
+            let (refusal, _) = pair.page(1, 0, ANSWER_LENGTH, counts)?;
+            let mut number = [0; 4];
+            number.copy_from_slice(&pair.lent()[at..at + 4]);
+            let number = u32::from_le_bytes(number);
+            if (refusal == 0) != (least..=most).contains(&number) {
+                return Err(format!("number {number} at {at}: {refusal}"));
+            }
+        }
+    }
+    Ok(())
 }
 
 /// The tables of a stored hall: offset, size of a record, number of records.

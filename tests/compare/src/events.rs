@@ -2,10 +2,15 @@
 //! that the tests can ask that each of them came.
 
 use reference::hall::{at_mark, LAST_SEQ, MOST_LABELS};
-use reference::{Hall, Message, Phase, Recorder, Seat, View};
+use reference::{Hall, Label, Message, Phase, Recorder, Seat, View};
 
 /// The events that random calls must meet.
-pub const EVENTS: [&str; 18] = [
+pub const EVENTS: [&str; 23] = [
+    LAST_NUMBER,
+    ABOVE_BY_HIGH_BYTES,
+    BELOW_BY_HIGH_BYTES,
+    TOP_BYTE_NOT_FORMED,
+    TOP_BYTE_OF_LABEL,
     SEQUENCE_FULL,
     BUFFER_FULL,
     LABEL_EXISTS,
@@ -26,6 +31,11 @@ pub const EVENTS: [&str; 18] = [
     NOTICE_LONG,
 ];
 
+const LAST_NUMBER: &str = "form: the last number";
+const ABOVE_BY_HIGH_BYTES: &str = "form: the low byte is not above all formed ones";
+const BELOW_BY_HIGH_BYTES: &str = "form: only the low byte is above all formed ones";
+const TOP_BYTE_NOT_FORMED: &str = "enter, place: formed but for the top byte";
+const TOP_BYTE_OF_LABEL: &str = "label: the label exists but for the top byte";
 const SEQUENCE_FULL: &str = "label: the sequence number is 65";
 const BUFFER_FULL: &str = "label: the buffer is full";
 const LABEL_EXISTS: &str = "label: the label exists";
@@ -119,11 +129,15 @@ pub fn before(hall: Option<&Hall>, [k, r, _, _]: [u32; 4]) -> Option<Before> {
 pub fn event(
     before: Option<Before>,
     hall: Option<&Hall>,
-    [k, r, _, _]: [u32; 4],
+    [k, r, a, _]: [u32; 4],
     number: u32,
 ) -> Option<&'static str> {
+    if matches!(k, 5..=7) {
+        return named(hall?, k, a, number);
+    }
     let before = before?;
     match (k, number) {
+        (2, 0) => labelled(hall?, r),
         (2, 40) => Some(full_label(&before)),
         (4, 40) if before.summary_sent => Some(SUMMARY_SENT),
         (4, 40) => Some(PENDING_FULL),
@@ -135,6 +149,37 @@ pub fn event(
         (9, 0) => noticed(&before),
         _ => None,
     }
+}
+
+/// The event of a step that names view A, by the hall after it.
+fn named(hall: &Hall, k: u32, a: u32, number: u32) -> Option<&'static str> {
+    let low = |number: u32| number & 0xff;
+    let mut formed = hall.views.iter().map(|view| view.number);
+    match (k, number) {
+        (5, 0) if a == u32::MAX => Some(LAST_NUMBER),
+        (5, 0) if formed.any(|other| other != a && low(other) >= low(a)) => {
+            Some(ABOVE_BY_HIGH_BYTES)
+        }
+        (5, 33) if formed.all(|other| low(other) < low(a)) => Some(BELOW_BY_HIGH_BYTES),
+        (6 | 7, 34) if formed.any(|other| top_byte_apart(other, a)) => Some(TOP_BYTE_NOT_FORMED),
+        _ => None,
+    }
+}
+
+/// Whether two numbers differ in the top byte alone.
+fn top_byte_apart(one: u32, other: u32) -> bool {
+    one != other && one << 8 == other << 8
+}
+
+/// The event of a label that R was given just now.
+fn labelled(hall: &Hall, r: u32) -> Option<&'static str> {
+    let recorder = hall.recorder(r);
+    let near = |label: Label| {
+        top_byte_apart(label.view, recorder.current)
+            && (label.seq + 1, label.sender) == (recorder.next_seq, r)
+    };
+    let mut labels = hall.entries.iter().filter_map(|entry| entry.label);
+    labels.any(near).then_some(TOP_BYTE_OF_LABEL)
 }
 
 fn full_label(before: &Before) -> &'static str {

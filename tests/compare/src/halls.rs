@@ -8,14 +8,54 @@ use reference::hall::{
 };
 use reference::{Entry, Hall, Label, Message, Phase, Queued, Recorder, Seat, Summary, View};
 
+/// Numbers of views.
+#[derive(Clone, Copy)]
+enum Numbers {
+    Low,
+    Any,
+    /// This one, and those that differ from it in one bit.
+    Near(u32),
+}
+
+impl Numbers {
+    fn random(random: &mut Random) -> Numbers {
+        match random.below(4) {
+            0 => Numbers::Any,
+            1 => Numbers::Near(random.word() >> random.below(32)),
+            _ => Numbers::Low,
+        }
+    }
+
+    /// A number from 1 on.
+    fn one(self, random: &mut Random) -> u32 {
+        match self {
+            Numbers::Low => random.between(1, 4),
+            Numbers::Any if random.one_in(8) => u32::MAX - random.between(0, 1),
+            Numbers::Any => 1.max(random.word() >> random.below(32)),
+            Numbers::Near(number) if random.one_in(4) => 1.max(number),
+            Numbers::Near(number) => 1.max(number ^ 1 << random.below(32)),
+        }
+    }
+
+    /// A highest primary: such a number, or 0 for none.
+    fn high(self, random: &mut Random) -> u32 {
+        if random.one_in(4) {
+            0
+        } else {
+            self.one(random)
+        }
+    }
+}
+
 /// What a hall is full of, drawn once for each hall.
 struct Style {
     n: u32,
+    numbers: Numbers,
     /// Most summaries are sent and queued, and recorders collect them.
     exchange: bool,
     /// Most messages have been received.
     received: bool,
-    /// Label views, sequence numbers and marks are low.
+    /// Marks are low.
     low: bool,
     /// Lists are mostly short.
     sparse: bool,
@@ -25,6 +65,7 @@ impl Style {
     fn random(random: &mut Random) -> Style {
         Style {
             n: random.between(1, 8),
+            numbers: Numbers::random(random),
             exchange: random.coin(),
             received: random.coin(),
             low: random.coin(),
@@ -61,7 +102,7 @@ fn entries(random: &mut Random, style: &Style) -> Vec<Entry> {
     for _ in 0..count {
         let sender = random.between(1, style.n);
         let label = Label {
-            view: random.between(1, if style.low { 4 } else { u32::MAX }),
+            view: style.numbers.one(random),
             seq: random.between(1, LAST_SEQ),
             sender,
         };
@@ -103,7 +144,7 @@ impl Names {
     }
 }
 
-/// Rising numbers of views, low ones or any.
+/// Rising numbers of formed views; there are only a few low ones.
 fn numbers(random: &mut Random, style: &Style) -> Vec<u32> {
     let count = match random.below(4) {
         0 => random.below(MOST_VIEWS + 1),
@@ -111,10 +152,13 @@ fn numbers(random: &mut Random, style: &Style) -> Vec<u32> {
         1 => MOST_VIEWS,
         _ => 1 + random.below(3),
     };
+    let drawn = match style.numbers {
+        Numbers::Low if count > 4 => Numbers::Any,
+        numbers => numbers,
+    };
     let mut numbers: Vec<u32> = Vec::new();
     while numbers.len() < count {
-        let most = if style.low && count <= 4 { 6 } else { u32::MAX };
-        let number = random.between(1, most);
+        let number = drawn.one(random);
         if !numbers.contains(&number) {
             numbers.push(number);
         }
@@ -128,7 +172,7 @@ fn summary(random: &mut Random, style: &Style, names: &Names) -> Summary {
         known: names.set(random),
         order: names.list(random, style),
         confirm: random.between(1, LAST_ORDER_MARK),
-        high: random.between(0, if style.low { 3 } else { u32::MAX }),
+        high: style.numbers.high(random),
     }
 }
 
@@ -255,7 +299,7 @@ fn recorder(
         safe_labels: names.set(random),
         confirm: mark(random),
         report: mark(random),
-        high: random.between(0, u32::MAX),
+        high: style.numbers.high(random),
         heard: sources(random, members & sent),
         safe_sources: sources(random, members),
     }

@@ -22,7 +22,7 @@ use std::time::Instant;
 type Test = fn(u64, &mut Counts) -> Result<(), Difference>;
 
 /// The tests, each with its number of seeds; 1 for those that use none.
-const TESTS: [(&str, Test, u64); 15] = [
+const TESTS: [(&str, Test, u64); 16] = [
     ("offsets by hand", offsets::by_hand, 1),
     ("vectors", vectors::all, 1),
     ("all openings", openings::all, 1),
@@ -31,6 +31,7 @@ const TESTS: [(&str, Test, u64); 15] = [
     ("offsets of halls", offsets::of_halls, 1_000),
     ("opened halls", runs::opened, 320),
     ("odd halls", runs::odd, 400),
+    ("bytes of numbers", damage::numbers, 1),
     ("damaged bytes", damage::some_values, 48),
     ("damaged records", damage::records, 100),
     ("lengths", damage::lengths, 100),

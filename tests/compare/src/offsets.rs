@@ -168,6 +168,9 @@ fn stands(bytes: &Document, hall: &Hall) -> Result<(), Difference> {
     blank(bytes, place_at(n + 1, 0), 6_496 * (8 - n))
 }
 
+/// The number of a later view.
+const LATER: u32 = 0x0403_0201;
+
 /// Three recorders, of which 1 and 2 found the hall and are an entry apart.
 /// What the library stores is read at the offsets, without the second
 /// implementation.
@@ -186,10 +189,10 @@ pub fn by_hand(_: u64, counts: &mut Counts) -> Result<(), Difference> {
         [10, 1, 0, 0],
         [11, 1, 0, 0],
         [2, 1, 0, 0],
-        [5, 0, 200, 0b101],
-        [6, 3, 200, 0],
+        [5, 0, LATER, 0b101],
+        [6, 3, LATER, 0],
         [4, 3, 0, 0],
-        [7, 3, 200, 0],
+        [7, 3, LATER, 0],
         [8, 3, 0, 0],
     ];
     for action in actions {
@@ -202,7 +205,7 @@ pub fn by_hand(_: u64, counts: &mut Counts) -> Result<(), Difference> {
         ("N", 0, &[3]),
         ("formed views", 1, &[2]),
         ("view 1", 2, &[1, 0, 0, 0, 0b011]),
-        ("view 200", 7, &[200, 0, 0, 0, 0b101]),
+        ("the later view", 7, &[1, 2, 3, 4, 0b101]),
         ("no third view", 12, &[0; 150]),
         ("entries", 162, &[2]),
         ("entry 1", 163, &[2, 0x0d, 0x0c, 0x0b, 0x0a, 1, 0, 0, 0, 1]),
@@ -239,7 +242,7 @@ pub fn by_hand(_: u64, counts: &mut Counts) -> Result<(), Difference> {
         (
             "recorder 3: view, phase, sequence",
             1_375,
-            &[200, 0, 0, 0, 2, 0],
+            &[1, 2, 3, 4, 2, 0],
         ),
         ("recorder 3: highest", 1_513, &[0, 0, 0, 0]),
         ("recorder 3: heard", 1_645, &[0, 0, 1, 0, 0, 0, 0, 0]),
@@ -247,11 +250,15 @@ pub fn by_hand(_: u64, counts: &mut Counts) -> Result<(), Difference> {
         ("1 in view 1: marks, no summary", 3_157, &[1, 1, 0]),
         ("2 in view 1: pending", 9_587, &[0, 0]),
         ("2 in view 1: marks, no summary", 9_653, &[1, 0, 0]),
-        ("3 in view 200: pending", 16_286, &[0, 0]),
-        ("3 in view 200: marks, summary sent", 16_352, &[1, 0, 1]),
-        ("3 in view 200: summary", 16_355, &[0; 134]),
+        ("3 in the later view: pending", 16_286, &[0, 0]),
+        (
+            "3 in the later view: marks, summary sent",
+            16_352,
+            &[1, 0, 1],
+        ),
+        ("3 in the later view: summary", 16_355, &[0; 134]),
         ("queue of view 1", 55_059, &[1, 2, 1, 0, 0]),
-        ("queue of view 200", 55_204, &[1, 3, 0, 0, 0]),
+        ("queue of the later view", 55_204, &[1, 3, 0, 0, 0]),
     ];
     for (what, at, bytes_wanted) in wanted {
         same(
