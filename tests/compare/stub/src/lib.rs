@@ -1,5 +1,7 @@
 //! The calls of `include/hall.h` over the second implementation, right or with
-//! one of the mistakes below, which HALL_FAULT names.
+//! one of the mistakes here and in `numbers`, which HALL_FAULT names.
+
+mod numbers;
 
 use reference::actions::judge_kind;
 use reference::calls::{self, ANSWER_LENGTH};
@@ -66,12 +68,10 @@ pub unsafe extern "C" fn hall_step(
     if let Some(number) = wrong_check(hall).filter(|_| judge_kind(k).is_ok()) {
         return number;
     }
-    let before = stored::read(hall);
-    let number = match before.clone().filter(|_| answer.len() >= ANSWER_LENGTH) {
-        Some(old) => wrong_step(&old, action, hall, answer),
-        None => None,
+    let number = match stored::read(hall).filter(|_| answer.len() >= ANSWER_LENGTH) {
+        Some(old) => step_of(&old, action, hall, answer),
+        None => calls::step(hall, action, answer),
     };
-    let number = number.unwrap_or_else(|| calls::step(hall, action, answer));
     if faulty("a refused answer cleared") && number != 0 {
         answer.fill(0);
     }
@@ -224,7 +224,7 @@ fn too_strict(hall: &Hall) -> bool {
             })
         });
     }
-    false
+    numbers::too_strict(hall)
 }
 
 /// Bytes made right that 01 refuses: a byte not looked at.
@@ -234,6 +234,12 @@ fn mended(bytes: &[u8]) -> Option<Vec<u8>> {
         mended[803 + 6 + 64] = 0;
     } else if faulty("a receive mark of 74 taken") && bytes[3_091 + 66] == 73 {
         mended[3_091 + 66] = 72;
+    } else if faulty("a formed view numbered 0 taken") && bytes[1] > 0 && bytes[2..6] == [0; 4] {
+        mended[2] = 1;
+    } else if faulty("only the low byte of a current view looked at") {
+        for recorder in mended[803..3_091].chunks_exact_mut(286) {
+            recorder[1..4].fill(0);
+        }
     } else if faulty("the last queue not looked at") {
         mended[LENGTH - 145..LENGTH].fill(0);
     } else if faulty("a label's sequence without a view taken") {
@@ -259,6 +265,14 @@ fn wrong_check(bytes: &[u8]) -> Option<u32> {
             .and_then(|mended| stored::read(&mended))
             .map(|_| 0),
     }
+}
+
+/// A step on a hall, with room for its answer.
+fn step_of(old: &Hall, action: [u32; 4], bytes: &mut [u8], answer: &mut [u8]) -> u32 {
+    let action = numbers::misread(old, action);
+    numbers::wrong_number(old, action)
+        .or_else(|| wrong_step(old, action, bytes, answer))
+        .unwrap_or_else(|| calls::step(bytes, action, answer))
 }
 
 /// A step done wrong; nothing for a mistake that is not asked for or has no
@@ -310,15 +324,19 @@ fn wrong_step(
         }
         hall.recorder_mut(r).phase = reference::Phase::Normal;
     } else {
-        return None;
+        numbers::mislead(&mut hall, k, r)?;
     }
     let kept = hall.clone();
-    let words = match hall.step(k, r, a, b).plain() {
+    let mut words = match hall.step(k, r, a, b).plain() {
         Ok(words) => words,
         Err(number) => return Some(number),
     };
     // What was changed only to mislead the step is put back.
+    hall.entries = old.entries.clone();
     let after = hall.recorder_mut(r);
+    if after.current == kept.recorder(r).current {
+        after.current = recorder.current;
+    }
     if after.safe_labels == kept.recorder(r).safe_labels {
         after.safe_labels = recorder.safe_labels;
     }
@@ -329,6 +347,9 @@ fn wrong_step(
         for source in 1..=hall.n {
             let summary = old.views[index].seat(source).summary.clone();
             hall.views[index].seat_mut(source).summary = summary;
+        }
+        if k == 8 && words[0] == 2 {
+            words[5] = old.views[index].sent_summary(words[1]).high;
         }
         if k == 9 {
             let receive = old.views[index].seat(r).receive;
