@@ -208,7 +208,7 @@ fn odd_halls(seed: u64, count: usize) -> Vec<Snapshot> {
 fn full_hall() -> Snapshot {
     let all: Vec<usize> = (0..64).collect();
     let label = |e: usize| Label {
-        view: 1,
+        view: u32::MAX,
         seq: e as u32 / 8 + 1,
         sender: e as u32 % 8 + 1,
     };
@@ -216,7 +216,7 @@ fn full_hall() -> Snapshot {
         known: u64::MAX,
         order: all.clone(),
         confirm: 65,
-        high: 255,
+        high: u32::MAX,
     };
     let seat = Seat {
         pending: (0..65).map(|e| Message::Entry(e % 64)).collect(),
@@ -229,13 +229,13 @@ fn full_hall() -> Snapshot {
         message: Message::Entry(e % 64),
     };
     let view = |g: u32| View {
-        number: 224 + g,
+        number: u32::MAX - 31 + g,
         members: 255,
         queue: (0..72).map(queued).collect(),
         seats: vec![seat.clone(); 8],
     };
     let recorder = Recorder {
-        current: 255,
+        current: u32::MAX,
         phase: Phase::Collect,
         known: u64::MAX,
         next_seq: 65,
@@ -244,7 +244,7 @@ fn full_hall() -> Snapshot {
         safe_labels: u64::MAX,
         confirm: 65,
         report: 65,
-        high: 255,
+        high: u32::MAX,
         heard: 255,
         safe_sources: 255,
     };

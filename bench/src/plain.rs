@@ -30,7 +30,7 @@ fn entries_fit(bytes: &[u8], n: usize, count: usize) -> bool {
     let mut labels: Vec<(u32, u8, u8)> = Vec::with_capacity(count);
     for entry in bytes[ENTRIES..ENTRIES + 10 * count].chunks_exact(10) {
         let (sender, view, seq) = (entry[0], word(entry, 5), entry[9]);
-        let in_range = (1..=n).contains(&sender.into()) && view <= 255 && seq <= 64;
+        let in_range = (1..=n).contains(&sender.into()) && seq <= 64;
         if !in_range || (view == 0) != (seq == 0) {
             return false;
         }
@@ -47,7 +47,7 @@ fn views_fit(bytes: &[u8], n: usize, formed: usize) -> bool {
     let mut last = 0;
     for view in bytes[2..2 + 5 * formed].chunks_exact(5) {
         let number = word(view, 0);
-        if number <= last || number > 255 || view[4] == 0 || usize::from(view[4]) >> n != 0 {
+        if number <= last || view[4] == 0 || usize::from(view[4]) >> n != 0 {
             return false;
         }
         last = number;
@@ -93,10 +93,7 @@ impl Facts<'_> {
     }
 
     fn summary_fits(&self, summary: &[u8]) -> bool {
-        self.set_fits(&summary[..64])
-            && self.list_fits(&summary[64..129])
-            && summary[129] <= 64
-            && word(summary, 130) <= 255
+        self.set_fits(&summary[..64]) && self.list_fits(&summary[64..129]) && summary[129] <= 64
     }
 
     fn place_fits(&self, p: usize, i: usize) -> bool {
@@ -163,7 +160,6 @@ impl Facts<'_> {
             && self.list_fits(&recorder[71..136])
             && recorder[136] <= 64
             && recorder[137] <= 64
-            && word(recorder, 138) <= 255
             && self.set_fits(&recorder[142..206])
             && self.set_fits(&recorder[206..270])
             && self.standing_fits(r, recorder)
