@@ -118,7 +118,7 @@ static const char *reason(uint32_t number, uint32_t kind)
     case HALL_REFUSED_UNUSED:
         return "a number that this action does not use is not 0";
     case HALL_REFUSED_VIEW_NUMBER:
-        return "view numbers are 1 to 255";
+        return "view numbers are 1 to 4294967295";
     case HALL_REFUSED_SET:
         return "the new view has no member, or one that the hall does not have";
     case HALL_REFUSED_OPENING:
@@ -203,7 +203,7 @@ static const char *place_state(uint32_t place, uint32_t confirm, uint32_t report
 static uint32_t print_log(const uint8_t *hall, uint32_t r, uint32_t length)
 {
     if (length != 0) {
-        puts("\n  place      label       value  state");
+        puts("\n  place            label       value  state");
     }
     for (uint32_t place = 1; place <= length; place++) {
         uint8_t page[HALL_ANSWER_LENGTH];
@@ -215,7 +215,7 @@ static uint32_t print_log(const uint8_t *hall, uint32_t r, uint32_t length)
         snprintf(label, sizeof label, "%" PRIu32 ".%" PRIu32 ".%" PRIu32,
                  hall_word(page, HALL_PAGE_LABEL_VIEW), hall_word(page, HALL_PAGE_LABEL_SEQ),
                  hall_word(page, HALL_PAGE_LABEL_SENDER));
-        printf("  %5" PRIu32 "  %9s  %10" PRIu32 "  %s\n", place, label, hall_word(page, HALL_PAGE_VALUE),
+        printf("  %5" PRIu32 "  %15s  %10" PRIu32 "  %s\n", place, label, hall_word(page, HALL_PAGE_VALUE),
                place_state(place, hall_word(page, HALL_PAGE_CONFIRM), hall_word(page, HALL_PAGE_REPORT)));
     }
     return HALL_OK;

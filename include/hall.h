@@ -58,14 +58,16 @@ extern "C" {
 
 /* What a hall holds at most. An action that would pass such a limit is refused
  * with the number given. */
-#define HALL_MAX_ENTRIES 64      /* entries ever submitted: 32 */
-#define HALL_MAX_VIEWS 32        /* views ever formed, the founders' included: 32 */
-#define HALL_MAX_VIEW_NUMBER 255 /* the number of a view, from 1 on: 14 */
-#define HALL_MAX_SEQ 64          /* the sequence number of a label, from 1 on: 40 */
-#define HALL_MAX_BUFFER 64       /* labelled entries of a recorder not yet sent: 40 */
-#define HALL_MAX_ORDER 64        /* entries in the order of a recorder: 40 */
-#define HALL_MAX_PENDING 65      /* pending messages of a recorder in a view: 40 */
-#define HALL_MAX_QUEUE 72        /* messages in the queue of a view: 40 */
+#define HALL_MAX_ENTRIES 64 /* entries ever submitted: 32 */
+#define HALL_MAX_VIEWS 32   /* views ever formed, the founders' included: 32 */
+#define HALL_MAX_SEQ 64     /* the sequence number of a label, from 1 on: 40 */
+#define HALL_MAX_BUFFER 64  /* labelled entries of a recorder not yet sent: 40 */
+#define HALL_MAX_ORDER 64   /* entries in the order of a recorder: 40 */
+#define HALL_MAX_PENDING 65 /* pending messages of a recorder in a view: 40 */
+#define HALL_MAX_QUEUE 72   /* messages in the queue of a view: 40 */
+
+/* Numbers of views run from 1 to this one; 0 is refused with 14. */
+#define HALL_MAX_VIEW_NUMBER 4294967295u
 
 /* Kinds of actions: word k of a step. Each uses the words named here; an unused
  * word is 0. R is the recorder, from 1 on. */
@@ -148,7 +150,7 @@ enum hall_refusal {
     HALL_REFUSED_KIND = 11,        /* k is not 1 to 11 */
     HALL_REFUSED_RECORDER = 12,    /* r is not 1 to N where used, or not 0 where unused */
     HALL_REFUSED_UNUSED = 13,      /* an unused a or b is not 0 */
-    HALL_REFUSED_VIEW_NUMBER = 14, /* a view number is not 1 to 255 */
+    HALL_REFUSED_VIEW_NUMBER = 14, /* a view number is 0 */
     HALL_REFUSED_SET = 15,         /* a new view's set is empty or names a recorder above N */
     HALL_REFUSED_OPENING = 16,     /* N is not 1 to 8, or founders above N */
     HALL_REFUSED_SHORT = 18,       /* the slice to write into is too short; given last */

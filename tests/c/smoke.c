@@ -1,8 +1,8 @@
 /*
  * Opens a hall, takes the steps of the bench card "the listing" and reads
- * pages, and checks every value that comes back. Reads the margins of opened
- * halls. Writes and reads run files. Then refused calls, each of which must
- * leave all lent bytes as they were.
+ * pages, and checks every value that comes back. Goes through views with great
+ * numbers. Reads the margins of opened halls. Writes and reads run files. Then
+ * refused calls, each of which must leave all lent bytes as they were.
  *
  * Each lent slice is allocated by itself with just the length that is lent, so
  * that a memory checker sees any access outside it.
@@ -90,6 +90,13 @@ static int step_is_done(uint8_t *hall, uint32_t k, uint32_t r, uint32_t a)
     return step_gives(hall, k, r, a, done, 1);
 }
 
+static int view_is_formed(uint8_t *hall, uint32_t number, uint32_t set)
+{
+    uint32_t refusal;
+    free(answer_of(hall, HALL_FORM, 0, number, set, &refusal));
+    return refusal == 0;
+}
+
 /* Whether a step is refused with a number and leaves hall and answer. */
 static int step_refused(uint8_t *hall, uint32_t k, uint32_t r, uint32_t a, uint32_t b, uint32_t wanted)
 {
@@ -163,12 +170,10 @@ static void second_view(void)
     const uint32_t sending[] = {2, 2, HALL_PHASE_SEND, (uint32_t)-2, 1, 0, 0, 1, 1};
     const uint32_t complete[] = {2, 2, HALL_PHASE_NORMAL, (uint32_t)-2, 1, 0, 0, 1, 1};
     uint8_t *hall = filled(HALL_LENGTH, 0);
-    uint32_t number;
 
     CHECK(hall_open(hall, HALL_LENGTH, 3, 3) == 0);
     CHECK(page_gives(hall, 3, 0, outside, 9));
-    free(answer_of(hall, HALL_FORM, 0, 2, 2, &number));
-    CHECK(number == 0);
+    CHECK(view_is_formed(hall, 2, 2));
     CHECK(step_refused(hall, HALL_FORM, 0, 2, 2, HALL_REFUSED_NOT_RISING));
     CHECK(step_refused(hall, HALL_ENTER, 1, 2, 0, HALL_REFUSED_NO_MEMBER));
     CHECK(step_is_done(hall, HALL_ENTER, 2, 2));
@@ -182,6 +187,39 @@ static void second_view(void)
     CHECK(page_gives(hall, 2, 0, complete, 9));
     CHECK(step_gives(hall, HALL_SAFE, 2, 0, summary, 6));
     CHECK(step_is_done(hall, HALL_LABEL, 2, 0));
+    free(hall);
+}
+
+/* Views 255, 256 and the last one: each is formed once and entered. In the last
+ * one summaries are exchanged, and an entry is labelled and received. */
+static void view_numbers(void)
+{
+    const uint32_t last = HALL_MAX_VIEW_NUMBER;
+    const uint32_t numbers[] = {255, 256, last};
+    const uint32_t summary[] = {HALL_CASE_SUMMARY, 1, 0, 0, 1, 1};
+    const uint32_t entry[] = {HALL_CASE_ENTRY, 1, last, 1, 1, 5};
+    const uint32_t received[] = {last, 1, HALL_PHASE_NORMAL, 2, last, 1, 0, 1, 1, last, 1, 1, 5};
+    uint8_t *hall = filled(HALL_LENGTH, 0);
+
+    CHECK(hall_open(hall, HALL_LENGTH, 1, 1) == 0);
+    for (size_t i = 0; i < 3; i++) {
+        const uint32_t entered[] = {numbers[i], 1, HALL_PHASE_SEND, 2, 1, 0, 0, 1, 1};
+        CHECK(step_refused(hall, HALL_ENTER, 1, numbers[i], 0, HALL_REFUSED_NOT_FORMED));
+        CHECK(view_is_formed(hall, numbers[i], 1));
+        CHECK(step_refused(hall, HALL_FORM, 0, numbers[i], 1, HALL_REFUSED_NOT_RISING));
+        CHECK(step_is_done(hall, HALL_ENTER, 1, numbers[i]));
+        CHECK(step_refused(hall, HALL_ENTER, 1, numbers[i], 0, HALL_REFUSED_NOT_ABOVE));
+        CHECK(page_gives(hall, 1, 0, entered, 9));
+    }
+    CHECK(step_is_done(hall, HALL_SEND_SUMMARY, 1, 0));
+    CHECK(step_is_done(hall, HALL_PLACE, 1, last));
+    CHECK(step_gives(hall, HALL_RECEIVE, 1, 0, summary, 6));
+    CHECK(step_is_done(hall, HALL_SUBMIT, 1, 5));
+    CHECK(step_is_done(hall, HALL_LABEL, 1, 0));
+    CHECK(step_is_done(hall, HALL_SEND_ENTRY, 1, 0));
+    CHECK(step_is_done(hall, HALL_PLACE, 1, last));
+    CHECK(step_gives(hall, HALL_RECEIVE, 1, 0, entry, 6));
+    CHECK(page_gives(hall, 1, 1, received, 13));
     free(hall);
 }
 
@@ -249,7 +287,8 @@ static void refused_calls(void)
     CHECK(step_refused(hall, 0, 1, 0, 0, HALL_REFUSED_KIND));
     CHECK(step_refused(hall, HALL_ENTER, 9, 0, 0, HALL_REFUSED_RECORDER));
     CHECK(step_refused(hall, HALL_LABEL, 1, 0, 1, HALL_REFUSED_UNUSED));
-    CHECK(step_refused(hall, HALL_ENTER, 1, 256, 0, HALL_REFUSED_VIEW_NUMBER));
+    CHECK(step_refused(hall, HALL_ENTER, 1, 0, 0, HALL_REFUSED_VIEW_NUMBER));
+    CHECK(step_refused(hall, HALL_FORM, 0, 0, 256, HALL_REFUSED_VIEW_NUMBER));
     CHECK(step_refused(hall, HALL_FORM, 0, 2, 256, HALL_REFUSED_SET));
     CHECK(step_refused(hall, HALL_ENTER, 1, 2, 0, HALL_REFUSED_NOT_FORMED));
     CHECK(step_refused(hall, HALL_ENTER, 1, 1, 0, HALL_REFUSED_NOT_ABOVE));
@@ -423,6 +462,7 @@ int main(void)
 {
     listing_card();
     second_view();
+    view_numbers();
     margins();
     signed_words();
     refused_calls();
