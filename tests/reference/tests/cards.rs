@@ -98,7 +98,8 @@ fn view_numbers() {
     }
 }
 
-/// An entry is labelled, received and shown in the view with the last number.
+/// An entry is labelled, received, shown, confirmed and delivered in the view
+/// with the last number.
 #[test]
 fn the_last_view_number() {
     let last = u32::MAX;
@@ -118,6 +119,13 @@ fn the_last_view_number() {
     assert_eq!(hall.step(8, 1, 0, 0), entry);
     let page = hall.page(1, 1).unwrap();
     assert_eq!((page.view, page.high, page.label_view), (last, last, last));
+    let confirm = [(9, 0), (9, 0), (10, 0)];
+    assert!(all_accepted(&steps_at_1(&mut hall, &confirm)));
+    let delivered = Answer::From {
+        sender: 1,
+        value: 5,
+    };
+    assert_eq!(hall.step(11, 1, 0, 0), delivered);
     assert_eq!(hall.step(6, 1, last, 0), refused(36));
 }
 

@@ -174,7 +174,7 @@ fn a_higher_primary_beats_a_greater_number() {
     }
 }
 
-/// Labels of such views have their places in the order by the whole number.
+/// The missing entries come in the order of whole view numbers.
 #[test]
 fn labels_compare_by_the_whole_view_number() {
     for (high, lower) in HIGHER_AND_LOWER {
@@ -370,7 +370,7 @@ fn valid_halls() {
     ));
 }
 
-/// A number past a byte is that of a view, formed or not.
+/// Any number but 0 may be that of a view, formed or not.
 #[test]
 fn valid_halls_with_any_view_number() {
     for number in [255, 256, 1 << 16, 1 << 24, 1 << 31, u32::MAX] {
