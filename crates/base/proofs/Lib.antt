@@ -2,6 +2,7 @@ pub mod Bools
 pub mod UpdateLaws
 pub mod ListsLaws
 pub mod Filters
+pub mod Greatest
 pub mod Begins
 pub mod ChainsLaws
 pub mod NumbersLaws

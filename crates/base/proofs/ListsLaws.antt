@@ -1,8 +1,8 @@
--- Laws of lists: what they have, those of their elements that pass a test, rising lists, greatest elements.
+-- Laws of lists: what they have, those of their elements that pass a test, rising lists.
 -- Assumes nothing.
-use Prim.Native.Nat.{ℕ, zero, suc, _<_, _≤_, max}
+use Prim.Native.Nat.{ℕ, zero, suc, _<_, _≤_}
 use native.Mathlib.Nat.{not-suc-le-zero, le-of-suc-le-suc}
-use mathlib.Core.Path.{_≡_, refl, sym, ap, _∙_, subst}
+use mathlib.Core.Path.{_≡_, refl, sym, ap, _∙_}
 use mathlib.Core.Bool.{true, false, true≢false, false≢true, Bool, _&&_, _||_, and-false, and-eq-true-iff}
 use mathlib.Core.List.{List, [], _∷_, _++_}
 use lib.Dec.{eqb, ltb}
@@ -10,7 +10,7 @@ use lib.ListN.{length, getD}
 use borrow.Author.Tests.{eqb-true, eq-eqb, ltb-true, lt-ltb}
 use native.Mathlib.Omega.{arith}
 use mathlib.Core.Logic.{⊎-elim, _↔_, _⊎_, inl, inr}
-use Rattle.base.specs.Lists.{has, filter, rising, bit, count, all, nth, rest, greatest, isEmpty}
+use Rattle.base.specs.Lists.{has, filter, rising, bit, count, all, nth, rest, isEmpty}
 use Rattle.base.proofs.Bools.{by-cases, or-cases, and-both, or-left, or-right, and-true}
 
 -- ## What a list has
@@ -111,7 +111,7 @@ filter-append p (x ∷ xs) ys = go (p x) refl (filter-append p xs ys)
     go true e ih = simp (filter-in, ih)
     go false e ih = simp (filter-out, ih)
 
--- ## All elements, the greatest
+-- ## All elements
 
 -- what all elements have, each has
 pub all-has : (p : ℕ → Bool) (xs : List ℕ) (x : ℕ) → all p xs ≡ true → has xs x ≡ true → p x ≡ true
@@ -126,23 +126,6 @@ pub has-all : (p : ℕ → Bool) (xs : List ℕ) → ((x : ℕ) → has xs x ≡
 unfolding all
 has-all p [] f = refl
 has-all p (y ∷ ys) f = and-true (p y) (all p ys) (f y (has-head y ys)) (has-all p ys (λ x t. f x (has-right (y ∷ []) ys x t)))
-
--- each value is at most the greatest
-pub greatest-above : (f : ℕ → ℕ) (xs : List ℕ) (x : ℕ) → has xs x ≡ true → f x ≤ greatest f xs
-unfolding greatest has
-greatest-above f [] x t = absurd (true≢false (sym t))
-greatest-above f (y ∷ ys) x t =
-    ⊎-elim (λ e. subst (λ k. f k ≤ max (f y) (greatest f ys)) (sym e) (omega arith))
-    (λ t. let le = greatest-above f ys x t in omega arith) (has-cons y ys x t)
-
--- and the greatest is at most what all are
-pub greatest-least : (f : ℕ → ℕ) (xs : List ℕ) (b : ℕ) → ((x : ℕ) → has xs x ≡ true → f x ≤ b) → greatest f xs ≤ b
-unfolding greatest
-greatest-least f [] b all-below = omega arith
-greatest-least f (y ∷ ys) b all-below =
-    let here = all-below y (has-head y ys) in
-    let there = greatest-least f ys b (λ x t. all-below x (has-later y ys x t)) in
-    omega arith
 
 -- ## Rising lists
 

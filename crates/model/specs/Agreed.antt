@@ -10,6 +10,7 @@ use Rattle.base.specs.Lists.{has, Begins}
 use Rattle.model.specs.Hall.{Summary, Hall, Recorders}
 use Rattle.model.specs.Ordering.{Choice}
 use Rattle.model.specs.Answers.{from}
+use Rattle.model.specs.Refusals.{Rules}
 use Rattle.model.specs.Run.{Item, ofItems, orderOf, confirmedOf, History}
 
 -- What is asked of the choice of a representative: it is one of the sources, with the greatest highest primary.
@@ -17,6 +18,11 @@ pub record Fair (chosenrep : Choice) : Type 0 where
   pub isSource : (q : ℕ) (qs : List ℕ) (y : ℕ → Summary) → has (q ∷ qs) (chosenrep (q ∷ qs) y) ≡ true
   pub isHighest : (q : ℕ) (qs : List ℕ) (y : ℕ → Summary) (x : ℕ) → has (q ∷ qs) x ≡ true
       → y x .high ≤ y (chosenrep (q ∷ qs) y) .high
+
+-- It may be another choice in each view. Of the member that applies it nothing is asked or known: the number of the view,
+-- the sources and their summaries alone decide, so every member of a view takes the same source.
+abbrev pub FairRules : Rules → Type 0
+FairRules rules = (g : ℕ) → Fair (rules .chosenrep g)
 
 -- Demand 3 of what a run leaves.
 pub record Agreed (left : History) : Type 0 where

@@ -10,7 +10,8 @@ use borrow.Author.Tests.{leb-false, ltb-false}
 use lib.ListN.{length}
 use Rattle.base.specs.Lists.{has}
 use Rattle.base.specs.Update.{upd, upd₂}
-use Rattle.base.proofs.ListsLaws.{has-head, has-none, greatest-above, greatest-least}
+use Rattle.base.proofs.ListsLaws.{has-head, has-none}
+use Rattle.base.proofs.Greatest.{greatest-above, greatest-least}
 use Rattle.base.proofs.UpdateLaws.{at-place₂, upd-at, upd-at-both, upd₂-same, upd₂-other, upd₂-at, upd-same}
 use Rattle.base.proofs.Bools.{not-both, and-true, or-none}
 use Rattle.quorum.specs.Sets.{members}
@@ -359,7 +360,7 @@ module _ (rules : Rules) (h : Hall) (f : Facts h) (r q : ℕ) where
         let g = current h r in
         let y = summariesOf h g in
         let ok : (q : ℕ) → SummaryFacts (h .entries) (y q) = λ q. f .sums .summary q g in
-        let rep = rules .chosenrep in
+        let rep = rules .chosenrep g in
         let ms = membersOf h g in
         let primary = isPrimary rules h g in
         keep-receive h f r (queued q summary) (c .inView) _
@@ -406,7 +407,7 @@ module _ (rules : Rules) (h : Hall) (f : Facts h) (r q : ℕ) where
         keep-notice h f r (queued q summary) (c .inView) _
         (at-safe (at-safeSources (f .recorders) _) (here-in h f r (c .inView) .0) _
         (names-join _ (h .recorders .safe r) (has (heardOrder rules h r g)) (f .recorders .safe .holds r)
-        (full-names (rules .chosenrep) (h .entries) (heardSources r (membersOf h g) (h .recorders)) (summariesOf h g)
+        (full-names (rules .chosenrep g) (h .entries) (heardSources r (membersOf h g) (h .recorders)) (summariesOf h g)
         (λ q. f .sums .summary q g))))
         safe-sources (c .here)
 
