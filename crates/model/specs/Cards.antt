@@ -1,13 +1,16 @@
--- The P cards of 01's "Bench cards", and the margins and view numbers that 02 names, one list; the proof over it is in
--- proofs/Cards. A card is what the definitions give and what 01 or 02 says, as lists of numbers.
+-- The P cards of 01's "Bench cards", and the margins, view numbers and representative that 02 names, one list; the proof
+-- over it is in proofs/Cards. A card is what the definitions give and what 01 or 02 says, as lists of numbers.
 -- Assumes nothing.
 use Prim.Native.Nat.{ℕ}
 use mathlib.Core.Bool.{true, false}
 use mathlib.Core.List.{List, [], _∷_, _++_, map}
+use lib.ListN.{length}
 use Rattle.quorum.specs.Sets.{inMask}
 use Rattle.quorum.specs.Votes.{margin, quorum, builtIn}
 use Rattle.model.specs.Hall.{Entries, Service, Recorders, Hall}
+use Rattle.model.specs.Ordering.{Choice, greatestNumbered, chosen}
 use Rattle.model.specs.Answers.{plain, word}
+use Rattle.model.specs.Refusals.{rulesOf}
 use Rattle.model.specs.Opening.{Opening, openingOf, openRefusal, opened}
 use Rattle.model.specs.Call.{Words, wordsOf, hl3, broken, step, call}
 use Rattle.model.specs.Run.{run, answers}
@@ -151,6 +154,45 @@ lastViewCard =
           ∷ 4294967295 ∷ 4294967295 ∷ 3 ∷ 1 ∷ 700 ∷ 0 ∷ 0 ∷ 0 ∷ [];
     }
 
+-- "Among the sources with the greatest highest primary, the one with the longest order shall now represent" (02, A3). An entry
+-- that 2 submits in view 1 is received by 2 alone. Then 2 and 3, both with the highest primary 1, exchange their summaries
+-- in view 2, which is not primary.
+unfoldable pub healedCalls : List Words
+healedCalls =
+    wordsOf 1 2 700 0
+    ∷ wordsOf 2 2 0 0
+    ∷ wordsOf 3 2 0 0
+    ∷ wordsOf 7 2 1 0
+    ∷ wordsOf 8 2 0 0
+    ∷ wordsOf 5 0 2 6
+    ∷ wordsOf 6 2 2 0
+    ∷ wordsOf 6 3 2 0
+    ∷ wordsOf 4 2 0 0
+    ∷ wordsOf 4 3 0 0
+    ∷ wordsOf 7 2 2 0
+    ∷ wordsOf 7 3 2 0
+    ∷ wordsOf 8 2 0 0
+    ∷ wordsOf 8 2 0 0
+    ∷ wordsOf 8 3 0 0
+    ∷ wordsOf 8 3 0 0
+    ∷ []
+
+-- the orders of 2 and 3 then, each after its length, by a choice of the representative
+unfoldable pub healedOrders : Choice → List ℕ
+healedOrders choice =
+    let s = run (rulesOf builtIn choice) (opened (openingOf 3 7)) healedCalls .recorders in
+    length (s .order 2) ∷ s .order 2 ++ (length (s .order 3) ∷ s .order 3)
+
+-- the answers; by HL3's choice both have 2's order, the entry; by 01's both had 3's, which is empty
+unfoldable pub longestCard : Card
+longestCard =
+    record {
+      given = numbersOf (openingOf 3 7) healedCalls ++ (healedOrders chosen ++ healedOrders greatestNumbered);
+      wanted =
+          0 ∷ 0 ∷ 0 ∷ 0 ∷ 0 ∷ 0 ∷ 0 ∷ 0 ∷ 0 ∷ 0 ∷ 0 ∷ 0 ∷ 0 ∷ 0 ∷ 0 ∷ 0
+          ∷ 1 ∷ 1 ∷ 1 ∷ 1 ∷ 0 ∷ 0 ∷ [];
+    }
+
 -- "P enter 2 from 3: 36."
 unfoldable pub enterCard : Card
 enterCard =
@@ -211,6 +253,7 @@ cards =
     ∷ marginCards
     ∷ numberCard
     ∷ lastViewCard
+    ∷ longestCard
     ∷ enterCard
     ∷ labelCard
     ∷ orderCard
