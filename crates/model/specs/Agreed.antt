@@ -13,14 +13,15 @@ use Rattle.model.specs.Answers.{from}
 use Rattle.model.specs.Refusals.{Rules}
 use Rattle.model.specs.Run.{Item, ofItems, orderOf, confirmedOf, History}
 
--- What is asked of the choice of a representative: it is one of the sources, with the greatest highest primary.
+-- What is asked of the choice of a representative: it is one of the sources, with the greatest highest primary. The rest is
+-- left open: "a fact that holds for whichever of these sources is taken" (02, A3).
 pub record Fair (chosenrep : Choice) : Type 0 where
   pub isSource : (q : ℕ) (qs : List ℕ) (y : ℕ → Summary) → has (q ∷ qs) (chosenrep (q ∷ qs) y) ≡ true
   pub isHighest : (q : ℕ) (qs : List ℕ) (y : ℕ → Summary) (x : ℕ) → has (q ∷ qs) x ≡ true
       → y x .high ≤ y (chosenrep (q ∷ qs) y) .high
 
--- It may be another choice in each view. Of the member that applies it nothing is asked or known: the number of the view,
--- the sources and their summaries alone decide, so every member of a view takes the same source.
+-- "the same one by every member of a view": the view's number, its sources and their summaries decide, and nothing of the
+-- member that applies the choice. In another view the choice may be another.
 abbrev pub FairRules : Rules → Type 0
 FairRules rules = (g : ℕ) → Fair (rules .chosenrep g)
 

@@ -12,6 +12,7 @@ pub mod Page
 pub mod Call
 pub mod Run
 pub mod Agreed
+pub mod Unshifted
 pub mod RunFile
 pub mod Listing
 pub mod Cards
