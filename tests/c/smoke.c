@@ -223,6 +223,38 @@ static void view_numbers(void)
     free(hall);
 }
 
+/* An entry of view 1 reached 2 alone. When 2 and 3, of the same highest primary,
+ * exchange their summaries in view 2, both have 2's order, the longer one. */
+static void longest_order(void)
+{
+    const uint32_t entry[] = {HALL_CASE_ENTRY, 2, 1, 1, 2, 700};
+    const uint32_t longer[] = {HALL_CASE_SUMMARY, 2, 1, 1, 1, 1};
+    const uint32_t shorter[] = {HALL_CASE_SUMMARY, 3, 0, 0, 1, 1};
+    const uint32_t collecting[] = {2, 6, HALL_PHASE_COLLECT, 0, 1, 0, 0, 1, 1};
+    const uint32_t healed[] = {2, 6, HALL_PHASE_NORMAL, 0, 1, 1, 0, 1, 1, 1, 1, 2, 700};
+    uint8_t *hall = filled(HALL_LENGTH, 0);
+
+    CHECK(hall_open(hall, HALL_LENGTH, 3, 7) == 0);
+    CHECK(step_is_done(hall, HALL_SUBMIT, 2, 700));
+    CHECK(step_is_done(hall, HALL_LABEL, 2, 0));
+    CHECK(step_is_done(hall, HALL_SEND_ENTRY, 2, 0));
+    CHECK(step_is_done(hall, HALL_PLACE, 2, 1));
+    CHECK(step_gives(hall, HALL_RECEIVE, 2, 0, entry, 6));
+    CHECK(view_is_formed(hall, 2, 6));
+    for (uint32_t r = 2; r <= 3; r++) {
+        CHECK(step_is_done(hall, HALL_ENTER, r, 2));
+        CHECK(step_is_done(hall, HALL_SEND_SUMMARY, r, 0));
+        CHECK(step_is_done(hall, HALL_PLACE, r, 2));
+    }
+    CHECK(page_gives(hall, 3, 0, collecting, 9));
+    for (uint32_t r = 2; r <= 3; r++) {
+        CHECK(step_gives(hall, HALL_RECEIVE, r, 0, longer, 6));
+        CHECK(step_gives(hall, HALL_RECEIVE, r, 0, shorter, 6));
+        CHECK(page_gives(hall, r, 1, healed, 13));
+    }
+    free(hall);
+}
+
 /* Whether recorder r of a hall just opened has this margin. */
 static int margin_is(uint32_t n, uint32_t founders, uint32_t r, int32_t wanted)
 {
@@ -463,6 +495,7 @@ int main(void)
     listing_card();
     second_view();
     view_numbers();
+    longest_order();
     margins();
     signed_words();
     refused_calls();
