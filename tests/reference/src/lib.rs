@@ -9,6 +9,7 @@
 //! - `hall`: the fields of a hall, opening, votes and look-ups.
 //! - `actions`: the eleven actions and their answers.
 //! - `exchange`: what a recorder builds from the summaries of a view.
+//! - `choice`: whose order it takes.
 //! - `page`: the page of a recorder.
 //! - `check`: whether all fields are in range.
 //! - `stored`: the stored form, read and written.
@@ -21,6 +22,7 @@
 pub mod actions;
 pub mod calls;
 pub mod check;
+pub mod choice;
 pub mod exchange;
 pub mod hall;
 pub mod listing;

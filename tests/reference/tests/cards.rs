@@ -21,6 +21,11 @@ fn steps_at_1(hall: &mut Hall, steps: &[(u32, u32)]) -> Vec<Answer> {
     steps.iter().map(|&(k, a)| hall.step(k, 1, a, 0)).collect()
 }
 
+fn steps(hall: &mut Hall, actions: &[[u32; 4]]) -> Vec<Answer> {
+    let step = |&[k, r, a, b]: &[u32; 4]| hall.step(k, r, a, b);
+    actions.iter().map(step).collect()
+}
+
 fn all_accepted(answers: &[Answer]) -> bool {
     !answers
         .iter()
@@ -226,6 +231,44 @@ fn summaries_are_shown_as_sent() {
     };
     assert_eq!(hall.step(6, 2, 2, 0), DONE);
     assert_eq!(hall.step(8, 2, 0, 0), summary);
+}
+
+/// After an exchange without a quorum both members have the longest order, that
+/// of the one with the lower number.
+#[test]
+fn the_longest_order_represents() {
+    let mut hall = open(3, 7).unwrap();
+    // An entry of view 1 that 2 alone has received.
+    let at_2 = [[1, 2, 700, 0], [2, 2, 0, 0], [3, 2, 0, 0], [7, 2, 1, 0]];
+    assert!(all_accepted(&steps(&mut hall, &at_2)));
+    let entry = Answer::Entry {
+        source: 2,
+        view: 1,
+        seq: 1,
+        sender: 2,
+        value: 700,
+    };
+    assert_eq!(hall.step(8, 2, 0, 0), entry);
+    let into_view_2 = [[5, 0, 2, 0b110], [6, 2, 2, 0], [6, 3, 2, 0]];
+    assert!(all_accepted(&steps(&mut hall, &into_view_2)));
+    let summaries = [[4, 2, 0, 0], [4, 3, 0, 0], [7, 2, 2, 0], [7, 3, 2, 0]];
+    assert!(all_accepted(&steps(&mut hall, &summaries)));
+    let sent = |source: u32, length: u32| Answer::Summary {
+        source,
+        known: length,
+        order: length,
+        confirm: 1,
+        high: 1,
+    };
+    for r in [2, 3] {
+        let received = steps(&mut hall, &[[8, r, 0, 0], [8, r, 0, 0]]);
+        assert_eq!(received, [sent(2, 1), sent(3, 0)]);
+        let page = hall.page(r, 1).unwrap();
+        assert_eq!((page.view, page.members, page.margin), (2, 0b110, 0));
+        assert_eq!((page.phase, page.high, page.order_length), (0, 1, 1));
+        let label = (page.label_view, page.label_seq, page.label_sender);
+        assert_eq!((label, page.value), ((1, 1, 2), 700));
+    }
 }
 
 #[test]

@@ -99,17 +99,38 @@ fn an_entry_in_a_view_without_a_quorum() {
     assert_eq!(hall.recorder(2).safe_labels, 0);
 }
 
-/// Recorder 1 has heard 2, collects, and 1's own summary comes next. The
-/// representative is 2, with an order of the given length.
-fn before_the_last_summary(length: usize) -> Hall {
-    let mut hall = full_hall(2);
-    put_summary(&mut hall, 1, summary(0b1110, vec![], 4, 6));
-    let order = vec![0; length];
-    hall.views[0].seat_mut(2).summary = Some(summary(0b0010, order, 2, 6));
+/// The summaries of recorders 1 and on, who are all. Recorder 1 has heard the
+/// others, collects, and its own summary comes next.
+fn before_the_last_of(sent: Vec<Summary>) -> Hall {
+    let mut hall = full_hall(sent.len() as u32);
+    let others = hall.views[0].members & !1;
+    for (seat, sent) in hall.views[0].seats.iter_mut().zip(sent) {
+        seat.summary = Some(sent);
+    }
+    hall.views[0].queue.push(queued(1, Message::Summary));
     let recorder = hall.recorder_mut(1);
     recorder.phase = Phase::Collect;
-    recorder.heard = 0b10;
-    recorder.known = ALL_ENTRIES;
+    recorder.heard = others;
+    hall
+}
+
+/// The representative is 2, with an order of the given length.
+fn before_the_last_summary(length: usize) -> Hall {
+    let mut hall = before_the_last_of(vec![
+        summary(0b1110, vec![], 4, 6),
+        summary(0b0010, vec![0; length], 2, 6),
+    ]);
+    hall.recorder_mut(1).known = ALL_ENTRIES;
+    hall
+}
+
+/// A hall with recorders outside the view, so many that this is not primary.
+fn without_a_quorum(mut hall: Hall) -> Hall {
+    while hall.is_primary(&hall.views[0]) {
+        hall.n += 1;
+        hall.recorders.push(Recorder::starting(0));
+        hall.views[0].seats.push(Seat::empty());
+    }
     hall
 }
 
@@ -150,12 +171,7 @@ fn the_last_summary_in_another_phase() {
 
 #[test]
 fn the_last_summary_without_a_quorum() {
-    let mut hall = before_the_last_summary(64);
-    hall.n = 5;
-    for _ in 3..=5 {
-        hall.recorders.push(Recorder::starting(0));
-        hall.views[0].seats.push(Seat::empty());
-    }
+    let mut hall = without_a_quorum(before_the_last_summary(64));
     assert_accepted(&mut hall, 8, 1, 0);
     let recorder = hall.recorder(1);
     assert_eq!(recorder.order, vec![0; 64]);
@@ -172,6 +188,119 @@ fn a_higher_primary_beats_a_greater_number() {
         assert_accepted(&mut hall, 8, 1, 0);
         assert_eq!(hall.recorder(1).order, [3, 2, 1]);
     }
+}
+
+/// The summary of an order and a highest primary; no entry is known.
+fn ranked((order, high): (&[usize], u32)) -> Summary {
+    summary(0, order.to_vec(), 1, high)
+}
+
+/// Three summaries by their orders and highest primaries, and the one that
+/// represents, by its place: in a view with a quorum and in one without, and for
+/// the notice where all are heard.
+#[test]
+fn the_representative() {
+    let by_length = [
+        ([(&[1, 2, 3][..], 6), (&[4, 5], 6), (&[6], 6)], 0),
+        ([(&[1], 6), (&[2, 3], 6), (&[], 6)], 1),
+        ([(&[], 6), (&[1], 6), (&[2, 3], 6)], 2),
+    ];
+    let by_number = [
+        ([(&[1, 2][..], 6), (&[3, 4], 6), (&[5], 6)], 1),
+        ([(&[1, 2], 6), (&[3], 6), (&[4, 5], 6)], 2),
+        ([(&[1], 6), (&[2], 6), (&[3], 6)], 2),
+    ];
+    let by_primary = [
+        ([(&[1][..], 7), (&[2, 3], 6), (&[4, 5, 6], 6)], 0),
+        ([(&[1, 2, 3], 6), (&[], 7), (&[4], 6)], 1),
+        ([(&[1, 2], 7), (&[3], 7), (&[4, 5, 6], 6)], 0),
+        ([(&[1, 2, 3, 4], 6), (&[5], 7), (&[6], 7)], 2),
+    ];
+    for (sources, place) in by_length.into_iter().chain(by_number).chain(by_primary) {
+        let (order, high) = sources[place];
+        let hall = before_the_last_of(sources.map(ranked).to_vec());
+        let mut primary = hall.clone();
+        assert_accepted(&mut primary, 8, 1, 0);
+        assert_eq!(primary.recorder(1).order, order);
+        assert_eq!(primary.recorder(1).high, 1);
+        let mut other = without_a_quorum(hall.clone());
+        assert_accepted(&mut other, 8, 1, 0);
+        assert_eq!(other.recorder(1).order, order);
+        assert_eq!(other.recorder(1).high, high);
+        assert_eq!(safe_labels(hall, 0b111), entries_of(order));
+    }
+}
+
+/// For a notice only the heard sources count.
+#[test]
+fn the_representative_of_some() {
+    let orders = [(&[1, 2, 3][..], 6), (&[4, 5], 6), (&[6, 7], 6)];
+    let hall = before_the_last_of(orders.map(ranked).to_vec());
+    for (heard, place) in [
+        (0b001, 0),
+        (0b010, 1),
+        (0b100, 2),
+        (0b011, 0),
+        (0b101, 0),
+        (0b110, 2),
+        (0b111, 0),
+    ] {
+        let labels = entries_of(orders[place].0);
+        assert_eq!(safe_labels(hall.clone(), heard), labels);
+    }
+    let orders = [(&[1, 2, 3][..], 6), (&[4, 5], 6), (&[6], 7)];
+    let hall = before_the_last_of(orders.map(ranked).to_vec());
+    for (heard, place) in [(0b011, 0), (0b110, 2), (0b101, 2), (0b111, 2)] {
+        let labels = entries_of(orders[place].0);
+        assert_eq!(safe_labels(hall.clone(), heard), labels);
+    }
+}
+
+fn entries_of(order: &[usize]) -> u64 {
+    order.iter().fold(0, |set, entry| set | 1 << entry)
+}
+
+/// The labels that are safe at 1 after the notice of its own summary, the last
+/// one, with these sources heard.
+fn safe_labels(mut hall: Hall, heard: u32) -> u64 {
+    let others = hall.views[0].members & !1;
+    let recorder = hall.recorder_mut(1);
+    recorder.heard = heard;
+    recorder.safe_sources = others;
+    for seat in &mut hall.views[0].seats {
+        seat.receive = 2;
+    }
+    assert_accepted(&mut hall, 9, 1, 0);
+    hall.recorder(1).safe_labels
+}
+
+/// The orders compared are those in the summaries, not those of the sources now.
+#[test]
+fn the_representative_by_the_summaries() {
+    let orders = [(&[1][..], 6), (&[2, 3, 4], 6), (&[5, 6], 6)];
+    let mut hall = before_the_last_of(orders.map(ranked).to_vec());
+    hall.recorder_mut(1).order = vec![7; 9];
+    hall.recorder_mut(2).order = vec![];
+    hall.recorder_mut(3).order = vec![8; 64];
+    assert_eq!(safe_labels(hall.clone(), 0b111), entries_of(&[2, 3, 4]));
+    assert_accepted(&mut hall, 8, 1, 0);
+    assert_eq!(hall.recorder(1).order, [2, 3, 4]);
+}
+
+/// Whether the last summary is too much goes by the longest order.
+#[test]
+fn the_longest_order_overfills() {
+    // 62 places and three entries more; from the order of 2 it would be six.
+    let long = summary(0b1110, vec![0; 62], 1, 6);
+    let short = summary(0, vec![0; 3], 1, 6);
+    let mut hall = before_the_last_of(vec![long, short]);
+    assert_refused(&mut hall, 8, 1, 0, 40);
+    // 61 places and no entry more; from the order of 2 it would be 120.
+    let long = summary(ALL_ENTRIES >> 3, (0..61).collect(), 1, 6);
+    let short = summary(0, vec![0; 60], 1, 6);
+    let mut hall = before_the_last_of(vec![long, short]);
+    assert_accepted(&mut hall, 8, 1, 0);
+    assert_eq!(hall.recorder(1).order, (0..61).collect::<Vec<_>>());
 }
 
 /// The missing entries come in the order of whole view numbers.
