@@ -3,14 +3,58 @@
 //! - each delivered list has each sender's first entries, in order;
 //! - of two recorders, the confirmed list of the one with the lower or equal
 //!   highest primary begins the other's order;
+//! - of two recorders with the same highest primary, the one's order begins the
+//!   other's;
 //! - no list is ever full (40), and an entry to send or deliver is always
 //!   known (39 at kinds 3 and 11).
+//!
+//! It holds for whichever source with the greatest highest primary represents,
+//! the same one for every member of a view: for HL3's choice, for 01's, and for
+//! one that changes from view to view. It does not hold for a choice that looks
+//! at the length first, which shows that these runs can fail.
 
-use reference::{actions, open, refusal, Answer, Hall, Phase};
+use reference::choice::{
+    greatest_number, least_number, length_first, longest_order, Choice, Source,
+};
+use reference::exchange::heard_sources;
+use reference::hall::at_mark;
+use reference::{actions, open, refusal, Answer, Hall, Phase, Recorder};
+use std::collections::BTreeMap;
 
-const RUNS: u64 = 320;
+/// Runs with HL3's choice, with each other one, and with the wrong one.
+const RUNS: u64 = 240;
+const OTHER_RUNS: u64 = 120;
+const WRONG_RUNS: u64 = 800;
 /// Steps between two looks at the whole hall.
 const BETWEEN_LOOKS: u32 = 40;
+
+/// Another choice in each of three views.
+fn by_view<'a>(view: u32, sources: &[Source<'a>]) -> Source<'a> {
+    match view % 3 {
+        0 => longest_order(view, sources),
+        1 => greatest_number(view, sources),
+        _ => least_number(view, sources),
+    }
+}
+
+/// What does not hold of a run.
+type Broken = &'static str;
+
+const LABELLED: Broken = "the k-th label at a sender is not that of its k-th entry";
+const SENDERS: Broken = "a delivered list has not a sender's first entries, in order";
+const DELIVERED: Broken = "of two delivered lists none begins the other";
+const CONFIRMED: Broken = "a confirmed list does not begin the order of a primary as high";
+const SAME_PRIMARY: Broken = "two orders of one primary, and none begins the other";
+const FULL: Broken = "a list is full";
+const NOT_KNOWN: Broken = "an entry to send or deliver is not known";
+
+fn hold(holds: bool, broken: Broken) -> Result<(), Broken> {
+    if holds {
+        Ok(())
+    } else {
+        Err(broken)
+    }
+}
 
 /// A small generator of random numbers (splitmix64).
 struct Random(u64);
@@ -93,13 +137,25 @@ impl Style {
         unreachable!("left was below the sum of the weights")
     }
 
+    /// A kind and a recorder, mostly such that the action may well be allowed.
+    fn fitting(&self, random: &mut Random, hall: &Hall, slow: u32) -> (u32, u32) {
+        let mut choice = (1, 1);
+        for _ in 0..8 {
+            let kind = self.kind(random);
+            choice = (kind, self.recorder(random, hall.n, kind, slow));
+            if random.one_in(8) || fits(hall, choice.0, choice.1) {
+                break;
+            }
+        }
+        choice
+    }
+
     fn action(&self, random: &mut Random, hall: &Hall, place: u32) -> [u32; 4] {
         if random.one_in(50) {
             return junk_action(random);
         }
-        let kind = self.kind(random);
         let slow = self.slow(hall.n, place);
-        let r = self.recorder(random, hall.n, kind, slow);
+        let (kind, r) = self.fitting(random, hall, slow);
         match kind {
             actions::SUBMIT => [kind, r, random.below(1_000), 0],
             actions::FORM => [
@@ -118,6 +174,28 @@ impl Style {
     fn new_number(&self, random: &mut Random, hall: &Hall) -> u32 {
         let last = hall.views.last().map_or(0, |view| view.number);
         last.saturating_add(random.between(1, self.apart))
+    }
+}
+
+/// Whether an action of a kind at R may well be allowed.
+fn fits(hall: &Hall, kind: u32, r: u32) -> bool {
+    let recorder = hall.recorder(r);
+    let Some(index) = hall.current_index(r) else {
+        return matches!(kind, actions::SUBMIT | actions::FORM | actions::ENTER);
+    };
+    let view = &hall.views[index];
+    let seat = view.seat(r);
+    let normal = recorder.phase == Phase::Normal;
+    match kind {
+        actions::LABEL => normal && hall.first_waiting(r).is_some(),
+        actions::SEND_ENTRY => normal && !recorder.buffer.is_empty(),
+        actions::SEND_SUMMARY => recorder.phase == Phase::Send,
+        actions::PLACE => !seat.pending.is_empty(),
+        actions::RECEIVE => at_mark(&view.queue, seat.receive).is_some(),
+        actions::SAFE => at_mark(&view.queue, seat.safe).is_some() && view.all_received(seat.safe),
+        actions::CONFIRM => at_mark(&recorder.order, recorder.confirm).is_some(),
+        actions::DELIVER => recorder.report < recorder.confirm,
+        _ => true,
     }
 }
 
@@ -175,6 +253,10 @@ struct Counts {
     /// Views completed by a recorder, with a quorum and without.
     primary_completed: u64,
     other_completed: u64,
+    /// Those of them where the sources with the greatest highest primary have
+    /// orders of unequal length.
+    primary_unequal: u64,
+    other_unequal: u64,
     /// Primary views completed after another recorder completed a higher one.
     completed_late: u64,
     /// Pairs of recorders compared whose highest primaries differ, and where
@@ -183,7 +265,8 @@ struct Counts {
 }
 
 /// A hall and the lists that its run has given for each recorder.
-struct Run {
+struct Run<'c> {
+    choice: Choice<'c>,
     hall: Hall,
     submitted: Vec<Vec<usize>>,
     labelled: Vec<Vec<usize>>,
@@ -191,10 +274,11 @@ struct Run {
     counts: Counts,
 }
 
-impl Run {
-    fn opened(n: u32, founders: u32) -> Run {
+impl Run<'_> {
+    fn opened(choice: Choice<'_>, n: u32, founders: u32) -> Run<'_> {
         let lists = vec![Vec::new(); n as usize];
         Run {
+            choice,
             hall: open(n, founders).expect("the opening is taken"),
             submitted: lists.clone(),
             labelled: lists.clone(),
@@ -204,13 +288,14 @@ impl Run {
     }
 
     /// Performs an action and notes what it did.
-    fn step(&mut self, [k, r, a, b]: [u32; 4]) -> Answer {
+    fn step(&mut self, action: [u32; 4]) -> Result<Answer, Broken> {
+        let [k, r, ..] = action;
         self.counts.steps += 1;
         let before = self.before_at(r);
-        let answer = self.hall.step(k, r, a, b);
+        let answer = self.hall.step_with(self.choice, action);
         if let Answer::Refused(number) = answer {
-            judge_refusal(k, number);
-            return answer;
+            judge_refusal(k, number)?;
+            return Ok(answer);
         }
         self.counts.accepted += 1;
         match k {
@@ -220,7 +305,7 @@ impl Run {
             actions::DELIVER => self.note_delivery(r, before, answer),
             _ => (),
         }
-        answer
+        Ok(answer)
     }
 
     /// What stands at recorder R before an action, if there is such a recorder.
@@ -252,14 +337,29 @@ impl Run {
             return;
         }
         let number = recorder.current;
+        let unequal = u64::from(self.met_unequal_orders(recorder));
         if recorder.high != number {
             self.counts.other_completed += 1;
+            self.counts.other_unequal += unequal;
             return;
         }
         self.counts.primary_completed += 1;
+        self.counts.primary_unequal += unequal;
         if self.hall.recorders.iter().any(|other| other.high > number) {
             self.counts.completed_late += 1;
         }
+    }
+
+    /// Whether the sources that a recorder heard, those with the greatest highest
+    /// primary, have orders of unequal length.
+    fn met_unequal_orders(&self, recorder: &Recorder) -> bool {
+        let index = self.hall.view_index(recorder.current);
+        let view = &self.hall.views[index.expect("a view was completed")];
+        let sources = heard_sources(view, recorder.heard);
+        let longest = longest_order(view.number, &sources);
+        let shorter = |source: &Source| source.length() < longest.length();
+        let mut highest = sources.iter().filter(|s| s.high() == longest.high());
+        highest.any(shorter)
     }
 
     fn note_delivery(&mut self, r: u32, before: Before, answer: Answer) {
@@ -279,56 +379,74 @@ impl Run {
     }
 
     /// Looks at the whole hall.
-    fn look(&mut self) {
+    fn look(&mut self) -> Result<(), Broken> {
         assert!(self.hall.check());
-        self.check_labelled();
-        self.check_senders();
-        self.check_delivered();
-        self.check_confirmed();
+        self.check_labelled()?;
+        self.check_senders()?;
+        self.check_delivered()?;
+        self.check_confirmed()?;
+        self.check_orders()
     }
 
     /// The k-th accepted label at a sender labels its k-th entry.
-    fn check_labelled(&self) {
-        for (labelled, submitted) in self.labelled.iter().zip(&self.submitted) {
-            assert!(begins(labelled, submitted));
-        }
+    fn check_labelled(&self) -> Result<(), Broken> {
+        let mut senders = self.labelled.iter().zip(&self.submitted);
+        let well = senders.all(|(labelled, submitted)| begins(labelled, submitted));
+        hold(well, LABELLED)
     }
 
     /// Each delivered list has each sender's first entries, in order.
-    fn check_senders(&self) {
+    fn check_senders(&self) -> Result<(), Broken> {
         for delivered in &self.delivered {
             for (sender, submitted) in (1..).zip(&self.submitted) {
                 let is_from = |&entry: &usize| self.hall.entries[entry].sender == sender;
                 let from: Vec<usize> = delivered.iter().copied().filter(is_from).collect();
-                assert!(begins(&from, submitted));
+                hold(begins(&from, submitted), SENDERS)?;
             }
         }
+        Ok(())
     }
 
     /// Of two delivered lists one begins the other.
-    fn check_delivered(&self) {
+    fn check_delivered(&self) -> Result<(), Broken> {
         for one in &self.delivered {
             for other in &self.delivered {
-                assert!(begins(one, other) || begins(other, one));
+                hold(begins(one, other) || begins(other, one), DELIVERED)?;
             }
         }
+        Ok(())
     }
 
     /// Of two recorders, the confirmed list of the one with the lower or equal
     /// highest primary begins the other's order.
-    fn check_confirmed(&mut self) {
+    fn check_confirmed(&mut self) -> Result<(), Broken> {
         for one in &self.hall.recorders {
             let confirmed = one.order.get(..one.confirm as usize - 1);
-            let confirmed = confirmed.expect("the order has all confirmed places");
+            // The order has all confirmed places.
+            let confirmed = confirmed.ok_or(CONFIRMED)?;
             for other in &self.hall.recorders {
                 if one.high <= other.high {
-                    assert!(begins(confirmed, &other.order));
+                    hold(begins(confirmed, &other.order), CONFIRMED)?;
                 }
                 if one.high < other.high && !confirmed.is_empty() {
                     self.counts.unequal_pairs += 1;
                 }
             }
         }
+        Ok(())
+    }
+
+    /// Of two recorders with the same highest primary, the one's order begins
+    /// the other's. So orders of equal length are equal there.
+    fn check_orders(&self) -> Result<(), Broken> {
+        for one in &self.hall.recorders {
+            for other in &self.hall.recorders {
+                let (one_order, other_order) = (&one.order, &other.order);
+                let beginning = begins(one_order, other_order) || begins(other_order, one_order);
+                hold(one.high != other.high || beginning, SAME_PRIMARY)?;
+            }
+        }
+        Ok(())
     }
 }
 
@@ -346,33 +464,32 @@ fn begins(list: &[usize], other: &[usize]) -> bool {
 }
 
 /// In a run no list is ever full, and what is sent or delivered is known.
-fn judge_refusal(k: u32, number: u32) {
-    assert_ne!(number, refusal::FULL, "kind {k}");
-    if matches!(k, actions::SEND_ENTRY | actions::DELIVER) {
-        assert_ne!(number, refusal::NOT_READY, "kind {k}");
-    }
+fn judge_refusal(k: u32, number: u32) -> Result<(), Broken> {
+    hold(number != refusal::FULL, FULL)?;
+    let names_entry = matches!(k, actions::SEND_ENTRY | actions::DELIVER);
+    hold(!(names_entry && number == refusal::NOT_READY), NOT_KNOWN)
 }
 
 /// One run; now and then a refused call is shown to change nothing.
-fn random_run(seed: u64) -> Counts {
+fn random_run(choice: Choice, seed: u64) -> Result<Counts, Broken> {
     let mut random = Random(seed);
     let n = random.between(1, 8);
     let founders = random.below(1 << n);
     let style = Style::random(&mut random, n);
-    let mut run = Run::opened(n, founders);
+    let mut run = Run::opened(choice, n, founders);
     for place in 0..style.steps {
         let kept = (place % BETWEEN_LOOKS == 0).then(|| run.hall.clone());
         let action = style.action(&mut random, &run.hall, place);
-        let answer = run.step(action);
+        let answer = run.step(action)?;
         if let (Some(kept), Answer::Refused(_)) = (kept, answer) {
             assert_eq!(kept, run.hall);
         }
         if place % BETWEEN_LOOKS == 0 {
-            run.look();
+            run.look()?;
         }
     }
-    run.look();
-    run.counts
+    run.look()?;
+    Ok(run.counts)
 }
 
 fn add(sum: &mut Counts, counts: Counts) {
@@ -383,25 +500,63 @@ fn add(sum: &mut Counts, counts: Counts) {
     sum.delivered_far += counts.delivered_far;
     sum.primary_completed += counts.primary_completed;
     sum.other_completed += counts.other_completed;
+    sum.primary_unequal += counts.primary_unequal;
+    sum.other_unequal += counts.other_unequal;
     sum.completed_late += counts.completed_late;
     sum.unequal_pairs += counts.unequal_pairs;
 }
 
-#[test]
-fn random_runs_keep_the_common_order() {
+/// Runs with a choice; a promise that is broken is told with its seed.
+fn random_runs(choice: Choice, runs: u64) {
     let mut sum = Counts::default();
-    for seed in 1..=RUNS {
-        add(&mut sum, random_run(seed));
+    for seed in 1..=runs {
+        match random_run(choice, seed) {
+            Ok(counts) => add(&mut sum, counts),
+            Err(broken) => panic!("seed {seed}: {broken}"),
+        }
     }
     println!("{sum:?}");
-    // The runs are worth something only if they meet the hard cases.
-    assert!(sum.steps >= 1_000_000);
-    assert!(sum.accepted >= 100_000);
-    assert!(sum.delivered >= 8_000);
-    assert!(sum.delivered_later >= 5_000);
-    assert!(sum.delivered_far >= 1_000);
-    assert!(sum.primary_completed >= 1_500);
-    assert!(sum.other_completed >= 400);
-    assert!(sum.completed_late >= 15);
-    assert!(sum.unequal_pairs >= 15_000);
+    // The runs are worth something only if they meet the hard cases; so many
+    // of them in 40 runs.
+    let met = |count: u64, least: u64| assert!(40 * count >= runs * least);
+    met(sum.steps, 125_000);
+    met(sum.accepted, 30_000);
+    met(sum.delivered, 4_000);
+    met(sum.delivered_later, 2_400);
+    met(sum.delivered_far, 1_000);
+    met(sum.primary_completed, 400);
+    met(sum.other_completed, 100);
+    met(sum.primary_unequal, 100);
+    met(sum.other_unequal, 12);
+    met(sum.completed_late, 6);
+    met(sum.unequal_pairs, 3_000);
+}
+
+#[test]
+fn random_runs_keep_the_common_order() {
+    random_runs(&longest_order, RUNS);
+}
+
+#[test]
+fn so_they_do_with_the_greatest_number() {
+    random_runs(&greatest_number, OTHER_RUNS);
+}
+
+#[test]
+fn so_they_do_with_a_choice_by_view() {
+    random_runs(&by_view, OTHER_RUNS);
+}
+
+/// With a wrong choice the same runs break the promise.
+#[test]
+fn they_do_not_with_the_length_first() {
+    let mut broken: BTreeMap<Broken, u64> = BTreeMap::new();
+    for seed in 1..=WRONG_RUNS {
+        if let Err(what) = random_run(&length_first, seed) {
+            *broken.entry(what).or_default() += 1;
+        }
+    }
+    println!("{broken:?}");
+    assert!(broken.contains_key(DELIVERED));
+    assert!(broken.contains_key(CONFIRMED));
 }
