@@ -121,16 +121,17 @@ impl Counts {
         }
     }
 
-    /// What must have come and has not: answers and refusals of each call, and
-    /// the events named.
-    pub fn missing(&self, events: &[&'static str]) -> Vec<String> {
+    /// The answers and refusals of each call that must have come and have not.
+    pub fn missing_answers(&self) -> Vec<String> {
         let answers = wanted_answers().into_iter();
-        let no_answer = answers.filter(|key| !self.answers.contains_key(key));
-        let no_event = events.iter().filter(|event| self.of_event(event) == 0);
-        no_answer
-            .map(name)
-            .chain(no_event.map(|event| event.to_string()))
-            .collect()
+        let missing = answers.filter(|key| !self.answers.contains_key(key));
+        missing.map(name).collect()
+    }
+
+    /// Those of the named events that have not come.
+    pub fn missing_events(&self, events: &[&'static str]) -> Vec<String> {
+        let missing = events.iter().filter(|event| self.of_event(event) == 0);
+        missing.map(|event| event.to_string()).collect()
     }
 }
 

@@ -1,10 +1,14 @@
 //! Steps of special interest, told apart by the hall before and after them, so
 //! that the tests can ask that each of them came.
 
-use reference::hall::{at_mark, LAST_SEQ, MOST_LABELS};
+use crate::decisions;
+use reference::choice::longest_order;
+use reference::exchange::{exchanged_entries, heard_sources};
+use reference::hall::{at_mark, entry_set, LAST_SEQ, MOST_LABELS};
 use reference::{Hall, Label, Message, Phase, Recorder, Seat, View};
 
-/// The events that random calls must meet.
+/// The events that all calls together must meet; `decisions` has those that
+/// calls on reached and on random halls must meet each.
 pub const EVENTS: [&str; 23] = [
     LAST_NUMBER,
     ABOVE_BY_HIGH_BYTES,
@@ -69,34 +73,25 @@ pub struct Before {
     message: Option<(Message, u32)>,
     /// How long the order would be that the heard summaries build.
     built: usize,
+    /// What decides whose order it is.
+    decided: Vec<&'static str>,
 }
 
 /// How long the order is that the summaries of some sources build.
 fn built_length(view: &View, heard: u32) -> usize {
-    let sent = |k: u32| view.seat(k).summary.as_ref();
-    let sources = (1..=view.seats.len() as u32).filter(|k| heard >> (k - 1) & 1 != 0);
-    let summaries: Vec<_> = sources.filter_map(sent).collect();
-    let mut chosen = summaries.first();
-    for summary in &summaries {
-        if chosen.is_some_and(|best| summary.high >= best.high) {
-            chosen = Some(summary);
-        }
+    let sources = heard_sources(view, heard);
+    if sources.is_empty() {
+        return 0;
     }
-    let mut order = chosen.map_or(Vec::new(), |summary| summary.order.clone());
-    for summary in &summaries {
-        for entry in (0..64).filter(|entry| summary.known >> entry & 1 != 0) {
-            if !order.contains(&entry) {
-                order.push(entry);
-            }
-        }
-    }
-    order.len()
+    let order = &longest_order(view.number, &sources).summary.order;
+    let built = exchanged_entries(view, heard, &longest_order);
+    order.len() + (built & !entry_set(order)).count_ones() as usize
 }
 
 fn look(hall: &Hall, recorder: &Recorder, view: &View, seat: &Seat, kind: u32) -> Before {
     let mark = if kind == 8 { seat.receive } else { seat.safe };
     let queued = at_mark(&view.queue, mark);
-    let last_notice = kind == 9 && matches!(queued, Some(q) if q.message == Message::Summary);
+    let summary = queued.filter(|queued| queued.message == Message::Summary);
     Before {
         next_seq: recorder.next_seq,
         buffer: recorder.buffer.len(),
@@ -107,10 +102,13 @@ fn look(hall: &Hall, recorder: &Recorder, view: &View, seat: &Seat, kind: u32) -
         members: view.members,
         primary: hall.is_primary(view),
         message: queued.map(|q| (q.message, q.source)),
-        built: if last_notice {
-            built_length(view, recorder.heard)
-        } else {
-            0
+        built: match summary {
+            Some(_) if kind == 9 => built_length(view, recorder.heard),
+            _ => 0,
+        },
+        decided: match summary {
+            Some(queued) => decisions::of(hall, recorder, view, kind, queued.source),
+            None => Vec::new(),
         },
     }
 }
@@ -125,9 +123,23 @@ pub fn before(hall: Option<&Hall>, [k, r, _, _]: [u32; 4]) -> Option<Before> {
     Some(look(hall, hall.recorder(r), view, view.seat(r), k))
 }
 
-/// The event of a step, if it has one.
-pub fn event(
+/// The events of a step.
+pub fn events(
     before: Option<Before>,
+    hall: Option<&Hall>,
+    action: [u32; 4],
+    number: u32,
+) -> Vec<&'static str> {
+    let event = event(before.as_ref(), hall, action, number);
+    // What decides about 40 decides as well.
+    let before = before.filter(|_| matches!(number, 0 | 40));
+    let decided = before.map_or(Vec::new(), |before| before.decided);
+    event.into_iter().chain(decided).collect()
+}
+
+/// The event of a step by its kind and number, if it has one.
+fn event(
+    before: Option<&Before>,
     hall: Option<&Hall>,
     [k, r, a, _]: [u32; 4],
     number: u32,
@@ -138,15 +150,15 @@ pub fn event(
     let before = before?;
     match (k, number) {
         (2, 0) => labelled(hall?, r),
-        (2, 40) => Some(full_label(&before)),
+        (2, 40) => Some(full_label(before)),
         (4, 40) if before.summary_sent => Some(SUMMARY_SENT),
         (4, 40) => Some(PENDING_FULL),
         (8, 40) => match before.message?.0 {
             Message::Entry(_) => Some(ORDER_FULL),
             Message::Summary => Some(BUILT_TOO_LONG),
         },
-        (8, 0) => received(&before, hall?.recorder(r)),
-        (9, 0) => noticed(&before),
+        (8, 0) => received(before, hall?.recorder(r)),
+        (9, 0) => noticed(before),
         _ => None,
     }
 }

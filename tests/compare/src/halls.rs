@@ -3,8 +3,8 @@
 
 use crate::random::Random;
 use reference::hall::{
-    LAST_ORDER_MARK, LAST_QUEUE_MARK, LAST_SEQ, MOST_ENTRIES, MOST_LABELS, MOST_PENDING,
-    MOST_QUEUED, MOST_VIEWS,
+    entry_set, recorder_bit, LAST_ORDER_MARK, LAST_QUEUE_MARK, LAST_SEQ, MOST_ENTRIES, MOST_LABELS,
+    MOST_PENDING, MOST_QUEUED, MOST_VIEWS,
 };
 use reference::{Entry, Hall, Label, Message, Phase, Queued, Recorder, Seat, Summary, View};
 
@@ -322,4 +322,85 @@ pub fn hall(random: &mut Random) -> Hall {
         views,
         recorders,
     }
+}
+
+/// A summary that may well be as high or as long as another one of a view: of
+/// at least so many places, and three more at most. One in three knows just its
+/// order, in which no entry stands twice, as in a run.
+fn close_summary(random: &mut Random, names: &Names, least: usize, high: u32) -> Summary {
+    let length = least + random.below(4);
+    let (order, known) = if random.one_in(3) {
+        let turned = names.0.iter().cycle().skip(random.below(names.0.len()));
+        let order: Vec<usize> = turned.take(length.min(names.0.len())).copied().collect();
+        let known = entry_set(&order);
+        (order, known)
+    } else {
+        let order = (0..length).map(|_| random.pick(&names.0)).collect();
+        let some = names.set(random) & 0xff << random.below(64);
+        (order, random.pick(&[0, 0, some]))
+    };
+    Summary {
+        known,
+        order,
+        confirm: random.between(1, LAST_ORDER_MARK),
+        high: high - u32::from(random.one_in(3)),
+    }
+}
+
+/// A random hall with a view of several members and more than so many labelled
+/// entries.
+fn hall_with_members(random: &mut Random, entries: usize) -> (Hall, usize) {
+    let several = |view: &View| view.members.count_ones() > 1;
+    loop {
+        let hall = hall(random);
+        match hall.views.iter().position(several) {
+            Some(index) if Names::of(&hall.entries).0.len() > entries => return (hall, index),
+            _ => (),
+        }
+    }
+}
+
+/// Puts the summary of a source somewhere into a view's queue; at which mark.
+fn queue_summary(random: &mut Random, view: &mut View, source: u32) -> u32 {
+    let before = random.below(MOST_QUEUED.min(view.queue.len() + 1));
+    let message = Message::Summary;
+    view.queue.insert(before, Queued { source, message });
+    view.queue.truncate(MOST_QUEUED);
+    1 + before as u32
+}
+
+/// A random hall, and R whose next step of a kind, 8 or 9, gets the last summary
+/// of its view: all members have sent one, and all others are heard, or safe.
+pub fn before_the_last(random: &mut Random, kind: u32) -> (Hall, u32) {
+    let least = random.pick(&[0, 0, 0, MOST_LABELS - 3]);
+    let (mut hall, index) = hall_with_members(random, least);
+    let names = Names::of(&hall.entries);
+    let view = &mut hall.views[index];
+    let members: Vec<u32> = (1..=hall.n).filter(|&k| view.has(k)).collect();
+    let high = 1.max(random.word() >> random.below(32));
+    for &k in &members {
+        view.seat_mut(k).summary = Some(close_summary(random, &names, least, high));
+        view.seat_mut(k).receive = LAST_QUEUE_MARK;
+    }
+    let (r, source) = (random.pick(&members), random.pick(&members));
+    let mark = queue_summary(random, view, source);
+    let others = view.members & !recorder_bit(source);
+    let seat = view.seat_mut(r);
+    let heard = match kind {
+        8 => {
+            seat.receive = mark;
+            others
+        }
+        _ => {
+            seat.safe = mark;
+            view.members & random.word()
+        }
+    };
+    let current = view.number;
+    let recorder = hall.recorder_mut(r);
+    recorder.current = current;
+    recorder.phase = Phase::Collect;
+    recorder.heard = heard;
+    recorder.safe_sources = others;
+    (hall, r)
 }

@@ -4,6 +4,7 @@
 pub mod actions;
 pub mod counts;
 pub mod damage;
+pub mod decisions;
 pub mod events;
 pub mod files;
 pub mod halls;

@@ -10,7 +10,7 @@
 
 use compare::counts::Counts;
 use compare::pair::Difference;
-use compare::{damage, events, files, margins, offsets, openings, runs, vectors};
+use compare::{damage, decisions, events, files, margins, offsets, openings, runs, vectors};
 use std::env;
 use std::process::ExitCode;
 use std::sync::atomic::{AtomicU64, Ordering};
@@ -22,7 +22,7 @@ use std::time::Instant;
 type Test = fn(u64, &mut Counts) -> Result<(), Difference>;
 
 /// The tests, each with its number of seeds; 1 for those that use none.
-const TESTS: [(&str, Test, u64); 16] = [
+const TESTS: [(&str, Test, u64); 17] = [
     ("offsets by hand", offsets::by_hand, 1),
     ("vectors", vectors::all, 1),
     ("all openings", openings::all, 1),
@@ -31,6 +31,7 @@ const TESTS: [(&str, Test, u64); 16] = [
     ("offsets of halls", offsets::of_halls, 1_000),
     ("opened halls", runs::opened, 320),
     ("odd halls", runs::odd, 400),
+    ("exchanges", runs::exchanges, 100),
     ("bytes of numbers", damage::numbers, 1),
     ("damaged bytes", damage::some_values, 48),
     ("damaged records", damage::records, 100),
@@ -40,6 +41,15 @@ const TESTS: [(&str, Test, u64); 16] = [
     ("written run files", files::written, 200),
     ("offsets of 64 bits", files::high_words, 1),
 ];
+
+/// The events that a test must meet by itself.
+fn own_events(name: &str) -> &'static [&'static str] {
+    match name {
+        "opened halls" => &decisions::REACHED,
+        "exchanges" => &decisions::RANDOM,
+        _ => &[],
+    }
+}
 
 /// In place of "damaged bytes", on request.
 const EVERY_VALUE: (&str, Test, u64) = ("every value of every byte", damage::all_values, 256);
@@ -122,7 +132,7 @@ fn run(test: Test, first: u64, seeds: u64, threads: usize) -> Outcome {
     outcome.into_inner().expect("no test panics")
 }
 
-/// Prints a test's seeds and failures; whether it passed.
+/// Prints a test's seeds, failures and own events; whether it passed.
 fn report(name: &str, first: u64, seeds: u64, outcome: &Outcome, seconds: f64) -> bool {
     let calls = outcome.counts.calls;
     let last = first + seeds - 1;
@@ -133,17 +143,22 @@ fn report(name: &str, first: u64, seeds: u64, outcome: &Outcome, seconds: f64) -
     if calls == 0 {
         println!("  failed: no call was made");
     }
+    for event in own_events(name) {
+        println!("  {event}: {}", outcome.counts.of_event(event));
+    }
     outcome.failures.is_empty() && calls != 0
 }
 
-/// Whether everything that must have come did come.
-fn report_counts(counts: &Counts) -> bool {
+/// Whether everything that must have come did come; `missing` is what did not in
+/// single tests.
+fn report_counts(counts: &Counts, mut missing: Vec<String>) -> bool {
     println!("through the C interface:\n{counts}");
     let mut events = events::EVENTS.to_vec();
     events.extend([damage::STILL_A_HALL, damage::NO_HALL]);
     events.extend(margins::EVENTS);
     events.extend(files::EVENTS);
-    let missing = counts.missing(&events);
+    missing.extend(counts.missing_answers());
+    missing.extend(counts.missing_events(&events));
     for what in &missing {
         println!("  failed: never came: {what}");
     }
@@ -159,6 +174,7 @@ fn main() -> ExitCode {
         }
     };
     let mut sum = Counts::default();
+    let mut missing = Vec::new();
     let mut passed = 0;
     let mut failed = 0;
     for (name, test, seeds) in TESTS {
@@ -178,6 +194,8 @@ fn main() -> ExitCode {
         let outcome = run(test, first, seeds, options.threads);
         let seconds = begin.elapsed().as_secs_f64();
         let well = report(name, first, seeds, &outcome, seconds);
+        let own_missing = outcome.counts.missing_events(own_events(name)).into_iter();
+        missing.extend(own_missing.map(|event| format!("{name}: {event}")));
         sum.add(outcome.counts);
         *(if well { &mut passed } else { &mut failed }) += 1;
         if options.stop && !well {
@@ -185,7 +203,7 @@ fn main() -> ExitCode {
         }
     }
     if failed == 0 {
-        let well = report_counts(&sum);
+        let well = report_counts(&sum, missing);
         *(if well { &mut passed } else { &mut failed }) += 1;
     }
     println!("{passed} passed, {failed} failed");

@@ -196,7 +196,7 @@ impl Pair {
         let (number, words) = given(number, &answer);
         let kind = if action[0] <= 11 { action[0] } else { 0 };
         counts.call(Call::Step(kind), number, words[0]);
-        if let Some(event) = events::event(before, self.hall.as_ref(), action, number) {
+        for event in events::events(before, self.hall.as_ref(), action, number) {
             counts.event(event);
         }
         Ok((number, words))

@@ -5,6 +5,7 @@ use crate::counts::Counts;
 use crate::halls;
 use crate::pair::{random_room, Difference, Pair};
 use crate::random::Random;
+use reference::calls::ANSWER_LENGTH;
 use reference::stored::LENGTH;
 
 /// Steps, and a page after one in three of them.
@@ -59,6 +60,23 @@ pub fn odd(seed: u64, counts: &mut Counts) -> Result<(), Difference> {
         let mut pair = Pair::of_hall(hall, &rest);
         pair.read_back()?;
         let steps = random.between(1, 60);
+        calls(&mut random, &mut pair, steps, counts)?;
+    }
+    Ok(())
+}
+
+/// Calls on random halls that are about to take an order.
+pub fn exchanges(seed: u64, counts: &mut Counts) -> Result<(), Difference> {
+    let mut random = Random::new("exchanges", seed);
+    for _ in 0..40 {
+        let kind = random.pick(&[8, 9]);
+        let (hall, r) = halls::before_the_last(&mut random, kind);
+        if !hall.check() {
+            return Err("a random hall breaks a rule".to_string());
+        }
+        let mut pair = Pair::of_hall(hall, &[]);
+        pair.step([kind, r, 0, 0], ANSWER_LENGTH, counts)?;
+        let steps = random.between(1, 8);
         calls(&mut random, &mut pair, steps, counts)?;
     }
     Ok(())
