@@ -1,10 +1,12 @@
 //! The calls of `include/hall.h` over the second implementation, right or with
-//! one of the mistakes here and in `numbers`, which HALL_FAULT names.
+//! one of the mistakes here, in `numbers` and in `choices`, which HALL_FAULT
+//! names.
 
+mod choices;
 mod numbers;
 
 use reference::actions::judge_kind;
-use reference::calls::{self, ANSWER_LENGTH};
+use reference::calls::{self, ANSWER_LENGTH, WORDS};
 use reference::hall::{at_mark, Message};
 use reference::stored::{self, LENGTH};
 use reference::Hall;
@@ -272,7 +274,14 @@ fn step_of(old: &Hall, action: [u32; 4], bytes: &mut [u8], answer: &mut [u8]) ->
     let action = numbers::misread(old, action);
     numbers::wrong_number(old, action)
         .or_else(|| wrong_step(old, action, bytes, answer))
-        .unwrap_or_else(|| calls::step(bytes, action, answer))
+        .unwrap_or_else(|| choices::step(old, action, bytes, answer))
+}
+
+/// Puts an answer's words at a slice's start.
+fn put(answer: &mut [u8], words: [u32; WORDS]) {
+    for (bytes, word) in answer.chunks_exact_mut(4).zip(words) {
+        bytes.copy_from_slice(&word.to_le_bytes());
+    }
 }
 
 /// A step done wrong; nothing for a mistake that is not asked for or has no
@@ -327,7 +336,7 @@ fn wrong_step(
         numbers::mislead(&mut hall, k, r)?;
     }
     let kept = hall.clone();
-    let mut words = match hall.step(k, r, a, b).plain() {
+    let words = match hall.step(k, r, a, b).plain() {
         Ok(words) => words,
         Err(number) => return Some(number),
     };
@@ -348,17 +357,12 @@ fn wrong_step(
             let summary = old.views[index].seat(source).summary.clone();
             hall.views[index].seat_mut(source).summary = summary;
         }
-        if k == 8 && words[0] == 2 {
-            words[5] = old.views[index].sent_summary(words[1]).high;
-        }
         if k == 9 {
             let receive = old.views[index].seat(r).receive;
             hall.views[index].seat_mut(r).receive = receive;
         }
     }
-    for (bytes, word) in answer.chunks_exact_mut(4).zip(words) {
-        bytes.copy_from_slice(&word.to_le_bytes());
-    }
+    put(answer, words);
     stored::write(&hall, bytes);
     Some(0)
 }

@@ -1,7 +1,7 @@
 //! Mistakes in numbers of views, which take all of their four bytes.
 
 use crate::faulty;
-use reference::hall::{at_mark, Label, Message, View};
+use reference::hall::{at_mark, Label, Message};
 use reference::Hall;
 use std::collections::BTreeSet;
 
@@ -131,13 +131,6 @@ fn cut_labels(hall: &mut Hall, look: Look) {
     }
 }
 
-fn cut_highs(view: &mut View) {
-    let summaries = view.seats.iter_mut();
-    for sent in summaries.filter_map(|seat| seat.summary.as_mut()) {
-        sent.high = without_top_byte(sent.high);
-    }
-}
-
 /// Changes a hall so that a step of kind K at R goes wrong; nothing if it does
 /// not.
 pub fn mislead(hall: &mut Hall, k: u32, r: u32) -> Option<()> {
@@ -152,12 +145,6 @@ pub fn mislead(hall: &mut Hall, k: u32, r: u32) -> Option<()> {
         cut_labels(hall, low_byte);
     } else if summary && faulty("labels ordered without the view's top byte") {
         cut_labels(hall, without_top_byte);
-    } else if summary
-        // In other views its highest primary is taken over.
-        && hall.is_primary(view)
-        && faulty("the representative chosen without the top byte")
-    {
-        cut_highs(&mut hall.views[index]);
     } else {
         return None;
     }
