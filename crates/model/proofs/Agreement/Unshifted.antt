@@ -13,22 +13,21 @@ use borrow.Author.Tests.{eqb-true, eqb-false, leb-true, leb-false}
 use Rattle.base.specs.Lists.{has, greatest, Begins}
 use Rattle.base.proofs.ListsLaws.{has-none, in-filter}
 use Rattle.base.proofs.Greatest.{greatest-above, tops-in}
-use Rattle.base.proofs.UpdateLaws.{same?, upd-at}
+use Rattle.base.proofs.UpdateLaws.{same?}
 use Rattle.base.proofs.Bools.{by-cases, not-both}
 use Rattle.base.proofs.Begins.{begins-refl, begins-trans, begins-append, begins-both, begins-nil, begins-more, begins-whole}
 use Rattle.quorum.specs.Votes.{builtIn}
 use Rattle.model.specs.Hall.{Message, Service, Summary, Summaries, Recorders, Hall}
-use Rattle.model.specs.Ordering.{labelled, sentEntry, sentSummary, entered, heardSummary, completes, builtOrder, maxprimary, reps, longestOrder, chosen, established, confirmed, reported}
+use Rattle.model.specs.Ordering.{completes, maxprimary, reps, longestOrder, chosen}
 use Rattle.model.specs.Answers.{accepted}
-use Rattle.model.specs.Refusals.{Rules, rulesOf, isPrimary, summariesOf}
-use Rattle.model.specs.Actions.{doSubmit, doForm}
+use Rattle.model.specs.Refusals.{Rules, rulesOf, summariesOf}
 use Rattle.model.specs.Opening.{Opening, openRefusal, opened}
 use Rattle.model.specs.Call.{Words, hl3, step}
 use Rattle.model.specs.Run.{run}
 use Rattle.model.specs.Unshifted.{Overtaken, Unshifted}
 use Rattle.model.proofs.Ordering.Representatives.{longest-rep, longest-most, longest-fair}
-use Rattle.model.proofs.Accepting.Moves
-use Rattle.model.proofs.Accepting.Moves.{Move, submits, labels, sendsEntry, sendsSummary, forms, enters, places, receives, receivesPrimary, hears, hearsLast, notices, noticesPrimary, noticesSummary, noticesLast, confirms, delivers, CanReceive, told}
+use Rattle.model.proofs.Accepting.Moves.{Move, CanReceive, told}
+use Rattle.model.proofs.Accepting.Orders.{takenOrder, order-by}
 use Rattle.model.proofs.Accepting.Accepted.{accepted-moves, refused-same}
 use Rattle.model.proofs.Agreement.State.{received, full, built}
 use Rattle.model.proofs.Agreement.Invariants.{Origin, Inv}
@@ -122,15 +121,11 @@ module _ (row : ℕ → ℕ) (h : Hall) (inv : Inv (rulesOf row longestOrder) h)
       let le = greatest-above (λ q. y q .high) ms r mine in
       ⊎-elim (λ e. absurd (ne e)) (λ apart. omega (arith, z-rep .1)) (same? (y r .high) (maxprimary ms y))
 
-  -- the order that r takes
-  abbrev taken : List ℕ
-  taken = builtOrder longestOrder (h .entries) (isPrimary rules h g) ms y
-
-  last-unshifted : Begins (h .recorders .order r) taken ⊎ Overtaken h r
+  last-unshifted : Begins (h .recorders .order r) (takenOrder rules h r) ⊎ Overtaken h r
   unfolding summariesOf
   last-unshifted =
       by-cases (eqb (y r .high) (maxprimary ms y))
-      (λ t′. inl (subst (λ l. Begins l taken) own-order (begins-trans (last-same t′) (order-begins rules h inv (λ g. longest-fair) r q c t))))
+      (λ t′. inl (subst (λ l. Begins l (takenOrder rules h r)) own-order (begins-trans (last-same t′) (order-begins rules h inv (λ g. longest-fair) r q c t))))
       (λ f.
       let lt = last-higher f in
       inr (record { source = z; member = z-rep .0; sent = sent z (z-rep .0); higher = omega (arith, own-high) }))
@@ -141,28 +136,9 @@ still : (h : Hall) (p : ℕ) → Unshifted h h p
 still h p = inl (begins-refl (h .recorders .order p))
 
 move-unshifted : (row : ℕ → ℕ) (h h′ : Hall) → Move (rulesOf row longestOrder) h h′ → Inv (rulesOf row longestOrder) h → (p : ℕ) → Unshifted h h′ p
-unfolding doSubmit doForm labelled sentEntry sentSummary entered heardSummary established confirmed reported
-move-unshifted row h _ (submits r a x y z) inv p = still h p
-move-unshifted row h _ (labels r e c) inv p = still h p
-move-unshifted row h _ (sendsEntry r e c) inv p = still h p
-move-unshifted row h _ (sendsSummary r c) inv p = still h p
-move-unshifted row h _ (forms a b c) inv p = still h p
-move-unshifted row h _ (enters r a c) inv p = still h p
-move-unshifted row h _ (places r a m c) inv p = still h p
-move-unshifted row h _ (receives r q e c t) inv p = still h p
-move-unshifted row h _ (receivesPrimary r q e c t) inv p =
-    upd-at (λ p l. Begins (h .recorders .order p) l ⊎ Overtaken h p) (h .recorders .order) r _
-    (inl (begins-append (h .recorders .order r) (e ∷ []))) (λ p ne. still h p) p
-move-unshifted row h _ (hears r q c t) inv p = still h p
-move-unshifted row h _ (hearsLast r q c t) inv p =
-    upd-at (λ p l. Begins (h .recorders .order p) l ⊎ Overtaken h p) (h .recorders .order) r _
-    (last-unshifted row h inv r q c t) (λ p ne. still h p) p
-move-unshifted row h _ (notices r q e c t) inv p = still h p
-move-unshifted row h _ (noticesPrimary r q e c t) inv p = still h p
-move-unshifted row h _ (noticesSummary r q c t) inv p = still h p
-move-unshifted row h _ (noticesLast r q c t s) inv p = still h p
-move-unshifted row h _ (confirms r c) inv p = still h p
-move-unshifted row h _ (delivers r c) inv p = still h p
+move-unshifted row h h′ mv inv =
+    order-by (rulesOf row longestOrder) h h′ mv (λ p l. Begins (h .recorders .order p) l ⊎ Overtaken h p) (still h)
+    (λ r e. inl (begins-append (h .recorders .order r) (e ∷ []))) (last-unshifted row h inv)
 
 -- from any opening that is taken, after any list of calls, one call more
 pub unshifted : (o : Opening) → openRefusal o ≡ 0 → (ws : List Words) (w : Words) (p : ℕ)
