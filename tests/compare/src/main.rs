@@ -21,38 +21,32 @@ use std::time::Instant;
 /// A test takes a seed, counts its calls, and says what differs.
 type Test = fn(u64, &mut Counts) -> Result<(), Difference>;
 
-/// The tests, each with its number of seeds; 1 for those that use none.
-const TESTS: [(&str, Test, u64); 17] = [
-    ("offsets by hand", offsets::by_hand, 1),
-    ("vectors", vectors::all, 1),
-    ("all openings", openings::all, 1),
-    ("any openings", openings::any, 32),
-    ("margins", margins::all, 1),
-    ("offsets of halls", offsets::of_halls, 1_000),
-    ("opened halls", runs::opened, 320),
-    ("odd halls", runs::odd, 400),
-    ("exchanges", runs::exchanges, 100),
-    ("bytes of numbers", damage::numbers, 1),
-    ("damaged bytes", damage::some_values, 48),
-    ("damaged records", damage::records, 100),
-    ("lengths", damage::lengths, 100),
-    ("run files of vectors", files::vectors, 1),
-    ("damaged run files", files::damaged, 400),
-    ("written run files", files::written, 200),
-    ("offsets of 64 bits", files::high_words, 1),
+/// A test with its name, its number of seeds, 1 if it uses none, and the events
+/// that it must meet by itself.
+type Row = (&'static str, Test, u64, &'static [&'static str]);
+
+const TESTS: [Row; 17] = [
+    ("offsets by hand", offsets::by_hand, 1, &[]),
+    ("vectors", vectors::all, 1, &[]),
+    ("all openings", openings::all, 1, &[]),
+    ("any openings", openings::any, 32, &[]),
+    ("margins", margins::all, 1, &[]),
+    ("offsets of halls", offsets::of_halls, 1_000, &[]),
+    ("opened halls", runs::opened, 320, &decisions::REACHED),
+    ("odd halls", runs::odd, 400, &[]),
+    ("exchanges", runs::exchanges, 100, &decisions::RANDOM),
+    ("bytes of numbers", damage::numbers, 1, &[]),
+    ("damaged bytes", damage::some_values, 48, &[]),
+    ("damaged records", damage::records, 100, &[]),
+    ("lengths", damage::lengths, 100, &[]),
+    ("run files of vectors", files::vectors, 1, &[]),
+    ("damaged run files", files::damaged, 400, &[]),
+    ("written run files", files::written, 200, &[]),
+    ("offsets of 64 bits", files::high_words, 1, &[]),
 ];
 
-/// The events that a test must meet by itself.
-fn own_events(name: &str) -> &'static [&'static str] {
-    match name {
-        "opened halls" => &decisions::REACHED,
-        "exchanges" => &decisions::RANDOM,
-        _ => &[],
-    }
-}
-
 /// In place of "damaged bytes", on request.
-const EVERY_VALUE: (&str, Test, u64) = ("every value of every byte", damage::all_values, 256);
+const EVERY_VALUE: Row = ("every value of every byte", damage::all_values, 256, &[]);
 
 /// A test ends when this many seeds have failed.
 const ENOUGH: usize = 5;
@@ -132,7 +126,7 @@ fn run(test: Test, first: u64, seeds: u64, threads: usize) -> Outcome {
     outcome.into_inner().expect("no test panics")
 }
 
-/// Prints a test's seeds, failures and own events; whether it passed.
+/// Prints a test's seeds and failures; whether it passed.
 fn report(name: &str, first: u64, seeds: u64, outcome: &Outcome, seconds: f64) -> bool {
     let calls = outcome.counts.calls;
     let last = first + seeds - 1;
@@ -142,9 +136,6 @@ fn report(name: &str, first: u64, seeds: u64, outcome: &Outcome, seconds: f64) -
     }
     if calls == 0 {
         println!("  failed: no call was made");
-    }
-    for event in own_events(name) {
-        println!("  {event}: {}", outcome.counts.of_event(event));
     }
     outcome.failures.is_empty() && calls != 0
 }
@@ -177,10 +168,10 @@ fn main() -> ExitCode {
     let mut missing = Vec::new();
     let mut passed = 0;
     let mut failed = 0;
-    for (name, test, seeds) in TESTS {
-        let (name, test, seeds) = match name {
+    for row in TESTS {
+        let (name, test, seeds, own_events) = match row.0 {
             "damaged bytes" if options.every_value => EVERY_VALUE,
-            _ => (name, test, seeds),
+            _ => row,
         };
         // A test of one seed uses none.
         let (first, seeds) = match seeds {
@@ -194,8 +185,11 @@ fn main() -> ExitCode {
         let outcome = run(test, first, seeds, options.threads);
         let seconds = begin.elapsed().as_secs_f64();
         let well = report(name, first, seeds, &outcome, seconds);
-        let own_missing = outcome.counts.missing_events(own_events(name)).into_iter();
-        missing.extend(own_missing.map(|event| format!("{name}: {event}")));
+        for event in own_events {
+            println!("  {event}: {}", outcome.counts.of_event(event));
+        }
+        let not_met = outcome.counts.missing_events(own_events).into_iter();
+        missing.extend(not_met.map(|event| format!("{name}: {event}")));
         sum.add(outcome.counts);
         *(if well { &mut passed } else { &mut failed }) += 1;
         if options.stop && !well {
