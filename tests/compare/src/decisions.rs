@@ -9,41 +9,41 @@ use reference::{Hall, Phase, Recorder, View};
 
 /// A step whose source another choice would not have taken.
 struct Decision {
-    other: Choice<'static>,
+    other: Choice,
     came: &'static str,
     shows: &'static str,
 }
 
 /// By the longest order, against the greater number.
 const RECEIVE_LONGEST: Decision = Decision {
-    other: &greatest_number,
+    other: greatest_number,
     came: "receive: the longest order decided",
     shows: "receive: the longest order decided, and it shows",
 };
 const SAFE_LONGEST: Decision = Decision {
-    other: &greatest_number,
+    other: greatest_number,
     came: "safe: the longest order decided",
     shows: "safe: the longest order decided, and it shows",
 };
 /// By the number, of several orders as long.
 const RECEIVE_NUMBER: Decision = Decision {
-    other: &least_of_longest,
+    other: least_of_longest,
     came: "receive: equal length, the number decided",
     shows: "receive: equal length, the number decided, and it shows",
 };
 const SAFE_NUMBER: Decision = Decision {
-    other: &least_of_longest,
+    other: least_of_longest,
     came: "safe: equal length, the number decided",
     shows: "safe: equal length, the number decided, and it shows",
 };
 /// By the highest primary, against a longer order.
 const RECEIVE_PRIMARY: Decision = Decision {
-    other: &length_first,
+    other: length_first,
     came: "receive: the highest primary decided",
     shows: "receive: the highest primary decided, and it shows",
 };
 const SAFE_PRIMARY: Decision = Decision {
-    other: &length_first,
+    other: length_first,
     came: "safe: the highest primary decided",
     shows: "safe: the highest primary decided, and it shows",
 };
@@ -97,7 +97,7 @@ pub fn of(
         let taken = |choice: Choice| hall.established(view, heard, choice);
         let mut events = decided(&RECEIVE, view, heard, taken);
         if events.contains(&RECEIVE_LONGEST.shows) {
-            match (taken(&longest_order), taken(&greatest_number)) {
+            match (taken(longest_order), taken(greatest_number)) {
                 (Err(_), Ok(_)) => events.push(OVER_BY_LONGEST),
                 (Ok(_), Err(_)) => events.push(OVER_BY_NUMBER),
                 _ => (),
@@ -126,9 +126,9 @@ fn decided<Left: PartialEq>(
     let takes = |choice: Choice| choice(view.number, &sources).number;
     let mut events = Vec::new();
     for decision in decisions {
-        if takes(decision.other) != takes(&longest_order) {
+        if takes(decision.other) != takes(longest_order) {
             events.push(decision.came);
-            if left(decision.other) != left(&longest_order) {
+            if left(decision.other) != left(longest_order) {
                 events.push(decision.shows);
             }
         }

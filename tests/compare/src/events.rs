@@ -84,7 +84,7 @@ fn built_length(view: &View, heard: u32) -> usize {
         return 0;
     }
     let order = &longest_order(view.number, &sources).summary.order;
-    let built = exchanged_entries(view, heard, &longest_order);
+    let built = exchanged_entries(view, heard, longest_order);
     order.len() + (built & !entry_set(order)).count_ones() as usize
 }
 

@@ -271,8 +271,8 @@ struct Counts {
 }
 
 /// A hall and the lists that its run has given for each recorder.
-struct Run<'c> {
-    choice: Choice<'c>,
+struct Run {
+    choice: Choice,
     hall: Hall,
     submitted: Vec<Vec<usize>>,
     labelled: Vec<Vec<usize>>,
@@ -280,8 +280,8 @@ struct Run<'c> {
     counts: Counts,
 }
 
-impl Run<'_> {
-    fn opened(choice: Choice<'_>, n: u32, founders: u32) -> Run<'_> {
+impl Run {
+    fn opened(choice: Choice, n: u32, founders: u32) -> Run {
         let lists = vec![Vec::new(); n as usize];
         Run {
             choice,
@@ -558,19 +558,19 @@ fn random_runs(choice: Choice, runs: u64) -> Counts {
 
 #[test]
 fn random_runs_keep_the_common_order() {
-    let sum = random_runs(&longest_order, RUNS);
+    let sum = random_runs(longest_order, RUNS);
     assert_eq!(sum.shifted, 0);
 }
 
 #[test]
 fn so_they_do_with_the_greatest_number() {
-    let sum = random_runs(&greatest_number, OTHER_RUNS);
+    let sum = random_runs(greatest_number, OTHER_RUNS);
     assert!(sum.shifted > 0);
 }
 
 #[test]
 fn so_they_do_with_a_choice_by_view() {
-    random_runs(&by_view, OTHER_RUNS);
+    random_runs(by_view, OTHER_RUNS);
 }
 
 /// With a wrong choice the same runs break the promise.
@@ -578,7 +578,7 @@ fn so_they_do_with_a_choice_by_view() {
 fn they_do_not_with_the_length_first() {
     let mut broken: BTreeMap<Broken, u64> = BTreeMap::new();
     for seed in 1..=WRONG_RUNS {
-        if let Err(what) = random_run(&length_first, seed) {
+        if let Err(what) = random_run(length_first, seed) {
             *broken.entry(what).or_default() += 1;
         }
     }

@@ -46,9 +46,9 @@ fn answers(name: &str, choice: Choice) -> Vec<Answer> {
 
 #[test]
 fn splits_tell_choices_apart() {
-    let others: [Choice; 3] = [&greatest_number, &least_number, &length_first];
+    let others: [Choice; 3] = [greatest_number, least_number, length_first];
     for (name, told) in SPLITS {
-        let right = answers(name, &longest_order);
+        let right = answers(name, longest_order);
         let differs = others.map(|other| answers(name, other) != right);
         assert_eq!(differs, told, "{name}");
     }

@@ -6,7 +6,13 @@ use reference::choice::{
     greatest_by, greatest_number, least_of_longest, length_first, longest_order, Source,
 };
 use reference::{refusal, stored, Answer, Hall};
+use std::cell::RefCell;
 use std::cmp::Reverse;
+
+thread_local! {
+    /// The hall before a step, and the step's kind.
+    static BEFORE: RefCell<Option<(Hall, u32)>> = const { RefCell::new(None) };
+}
 
 /// Whether 01's choice is made by a step of kind K in a view.
 fn by_number(hall: &Hall, k: u32, view: u32) -> bool {
@@ -18,8 +24,16 @@ fn by_number(hall: &Hall, k: u32, view: u32) -> bool {
         || !primary && faulty("the representative without a quorum by the greatest number")
 }
 
+/// The source that the step takes.
+fn chosen<'a>(view: u32, sources: &[Source<'a>]) -> Source<'a> {
+    BEFORE.with_borrow(|before| {
+        let (hall, k) = before.as_ref().expect("a step is taken");
+        chosen_at(hall, *k, view, sources)
+    })
+}
+
 /// The source that a step of kind K takes, rightly or by a mistake.
-fn chosen<'a>(hall: &Hall, k: u32, view: u32, sources: &[Source<'a>]) -> Source<'a> {
+fn chosen_at<'a>(hall: &Hall, k: u32, view: u32, sources: &[Source<'a>]) -> Source<'a> {
     if by_number(hall, k, view) {
         greatest_number(view, sources)
     } else if faulty("the length before the highest primary") {
@@ -50,11 +64,12 @@ pub fn step(old: &Hall, action: [u32; 4], bytes: &mut [u8], answer: &mut [u8]) -
     let mut hall = old.clone();
     if k == RECEIVE && faulty("40 also by the greatest number's order") {
         let full = Answer::Refused(refusal::FULL);
-        if old.clone().step_with(&greatest_number, action) == full {
+        if old.clone().step_with(greatest_number, action) == full {
             return refusal::FULL;
         }
     }
-    let answered = hall.step_with(&|view, sources| chosen(old, k, view, sources), action);
+    BEFORE.set(Some((old.clone(), k)));
+    let answered = hall.step_with(chosen, action);
     match answered.plain() {
         Ok(words) => {
             put(answer, words);
