@@ -3,6 +3,7 @@ pub mod RunLaw
 pub mod Refused
 pub mod Runs
 pub mod Agreement
+pub mod Unshifted
 pub mod ByKindLaws
 pub mod WrongPrograms
 pub mod ByteCards
