@@ -142,15 +142,15 @@ impl Style {
 
     /// A kind and a recorder, mostly such that the action may well be allowed.
     fn fitting(&self, random: &mut Random, hall: &Hall, slow: u32) -> (u32, u32) {
-        let mut choice = (1, 1);
+        let (mut kind, mut r) = (1, 1);
         for _ in 0..8 {
-            let kind = self.kind(random);
-            choice = (kind, self.recorder(random, hall.n, kind, slow));
-            if random.one_in(8) || fits(hall, choice.0, choice.1) {
+            kind = self.kind(random);
+            r = self.recorder(random, hall.n, kind, slow);
+            if random.one_in(8) || fits(hall, kind, r) {
                 break;
             }
         }
-        choice
+        (kind, r)
     }
 
     fn action(&self, random: &mut Random, hall: &Hall, place: u32) -> [u32; 4] {

@@ -4,7 +4,7 @@
 use Prim.Native.Nat.{ℕ, _-_, _≤_, _<_}
 use native.Mathlib.Omega.{arith}
 use mathlib.Core.Path.{_≡_, sym, ap, _∙_, subst}
-use mathlib.Core.Logic.{_⊎_, inl, inr, ⊎-elim}
+use mathlib.Core.Logic.{_⊎_, inl, inr}
 use mathlib.Core.Bool.{true, false}
 use mathlib.Core.List.{List, [], _∷_}
 use lib.Dec.{eqb, leb}
@@ -13,7 +13,6 @@ use borrow.Author.Tests.{eqb-true, eqb-false, leb-true, leb-false}
 use Rattle.base.specs.Lists.{has, greatest, Begins}
 use Rattle.base.proofs.ListsLaws.{has-none, in-filter}
 use Rattle.base.proofs.Greatest.{greatest-above, tops-in}
-use Rattle.base.proofs.UpdateLaws.{same?}
 use Rattle.base.proofs.Bools.{by-cases, not-both}
 use Rattle.base.proofs.Begins.{begins-refl, begins-trans, begins-append, begins-both, begins-nil, begins-more, begins-whole}
 use Rattle.quorum.specs.Votes.{builtIn}
@@ -117,9 +116,9 @@ module _ (row : ℕ → ℕ) (h : Hall) (inv : Inv (rulesOf row longestOrder) h)
   last-higher : eqb (y r .high) (maxprimary ms y) ≡ false → y r .high < y z .high
   unfolding maxprimary
   last-higher f =
-      let ne = eqb-false (y r .high) (maxprimary ms y) f in
+      let ne : y r .high ≡ maxprimary ms y → ⊥ = eqb-false (y r .high) (maxprimary ms y) f in
       let le = greatest-above (λ q. y q .high) ms r mine in
-      ⊎-elim (λ e. absurd (ne e)) (λ apart. omega (arith, z-rep .1)) (same? (y r .high) (maxprimary ms y))
+      omega (arith, z-rep .1)
 
   last-unshifted : Begins (h .recorders .order r) (takenOrder rules h r) ⊎ Overtaken h r
   unfolding summariesOf
