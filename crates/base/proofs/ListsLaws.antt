@@ -1,12 +1,14 @@
 -- Laws of lists: what they have, those of their elements that pass a test, rising lists.
 -- Assumes nothing.
-use Prim.Native.Nat.{ℕ, zero, suc, _<_, _≤_}
+use Prim.Native.Nat.{ℕ, zero, suc, _+_, _<_, _≤_}
 use native.Mathlib.Nat.{not-suc-le-zero, le-of-suc-le-suc}
+use native.Mathlib.Numerals.{add-one}
 use mathlib.Core.Path.{_≡_, refl, sym, ap, _∙_}
 use mathlib.Core.Bool.{true, false, true≢false, false≢true, Bool, _&&_, _||_, and-false, and-eq-true-iff}
 use mathlib.Core.List.{List, [], _∷_, _++_}
 use lib.Dec.{eqb, ltb}
-use lib.ListN.{length, getD}
+use lib.ListN.{length, getD, drop}
+use lib.Seq.{drop-cons}
 use borrow.Author.Tests.{eqb-true, eq-eqb, ltb-true, lt-ltb}
 use native.Mathlib.Omega.{arith}
 use mathlib.Core.Logic.{⊎-elim, _↔_, _⊎_, inl, inr}
@@ -126,6 +128,31 @@ pub has-all : (p : ℕ → Bool) (xs : List ℕ) → ((x : ℕ) → has xs x ≡
 unfolding all
 has-all p [] f = refl
 has-all p (y ∷ ys) f = and-true (p y) (all p ys) (f y (has-head y ys)) (has-all p ys (λ x t. f x (has-right (y ∷ []) ys x t)))
+
+-- the same by places, with 0 past the end
+pub all-get : (p : ℕ → Bool) → p 0 ≡ true → (xs : List ℕ) (i : ℕ) → all p xs ≡ true → p (getD xs i 0) ≡ true
+unfolding all
+all-get p z [] i t = z
+all-get p z (x ∷ xs) zero t = and-both (p x) (all p xs) t .0
+all-get p z (x ∷ xs) (suc i) t = all-get p z xs i (and-both (p x) (all p xs) t .1)
+
+pub get-all : (p : ℕ → Bool) (xs : List ℕ) → ((i : ℕ) → p (getD xs i 0) ≡ true) → all p xs ≡ true
+unfolding all
+get-all p [] f = refl
+get-all p (x ∷ xs) f = and-true (p x) (all p xs) (f 0) (get-all p xs (λ i. f (suc i)))
+
+-- a walk over a list: the elements from i on
+pub all-from : (p : ℕ → Bool) (xs : List ℕ) (i : ℕ) → i < length xs → all p (drop i xs) ≡ p (getD xs i 0) && all p (drop (i + 1) xs)
+unfolding all
+all-from p xs i h = ap (all p) (drop-cons xs i 0 h) ∙ ap (λ (j : ℕ). p (getD xs i 0) && all p (drop j xs)) (sym (add-one i))
+
+-- no element past the end
+pub all-past : (p : ℕ → Bool) (xs : List ℕ) (i : ℕ) → length xs ≤ i → all p (drop i xs) ≡ true
+unfolding all
+all-past p [] zero h = refl
+all-past p [] (suc i) h = refl
+all-past p (x ∷ xs) zero h = absurd (not-suc-le-zero h)
+all-past p (x ∷ xs) (suc i) h = all-past p xs i (le-of-suc-le-suc h)
 
 -- ## Rising lists
 

@@ -1,13 +1,14 @@
 -- Laws of ranges of numbers.
 -- Assumes nothing.
-use Prim.Native.Nat.{ℕ, suc, _≤_, _<_, zero, _+_}
+use Prim.Native.Nat.{ℕ, suc, _≤_, _<_, zero, _+_, _-_}
+use native.Mathlib.Nat.{not-suc-le-zero, le-of-suc-le-suc}
 use native.Mathlib.Omega.{arith}
 use mathlib.Core.Path.{_≡_, refl, sym, ap, ap₂, _∙_}
 use mathlib.Core.Bool.{Bool, true, false, false≢true}
-use mathlib.Core.List.{List, [], _∷_, _++_}
+use mathlib.Core.List.{List, [], _∷_, _++_, map}
 use lib.Dec.{eqb, leb}
 use borrow.Author.Tests.{eqb-true, eqb-false, leb-true}
-use lib.ListN.{length}
+use lib.ListN.{length, getD}
 use Rattle.base.specs.Lists.{filter, has, rising}
 use Rattle.base.specs.Numbers.{within, upTo, numbers}
 use Rattle.base.proofs.Bools.{and-both, by-cases}
@@ -82,6 +83,22 @@ upTo-range n k h =
 pub all-upTo : (p : ℕ → Bool) (n : ℕ) → filter p (upTo n) ≡ upTo n → (k : ℕ) → 1 ≤ k → k ≤ n → p k ≡ true
 all-upTo p n e k low high =
     in-filter p (upTo n) k .0 (ap (λ (l : List ℕ). has l k) e ∙ has-upTo n k low high) .1
+
+-- number k of what a function gives on them
+get-numbers : {A : Type 0} (f : ℕ → A) (s n i : ℕ) (d : A) → i < n → getD (map f (numbers s n)) i d ≡ f (s + i)
+unfolding numbers
+get-numbers f s zero i d h = absurd (not-suc-le-zero h)
+get-numbers f s (suc n) zero d h =
+    let e : s ≡ s + 0 = omega arith in
+    ap f e
+get-numbers f s (suc n) (suc i) d h =
+    let e : suc s + i ≡ s + suc i = omega arith in
+    get-numbers f (suc s) n i d (le-of-suc-le-suc h) ∙ ap f e
+
+pub get-upTo : {A : Type 0} (f : ℕ → A) (n k : ℕ) (d : A) → 1 ≤ k → k ≤ n → getD (map f (upTo n)) (k - 1) d ≡ f k
+get-upTo f n k d low high =
+    let e : 1 + (k - 1) ≡ k = omega arith in
+    ap (λ (xs : List ℕ). getD (map f xs) (k - 1) d) (upTo-numbers n) ∙ get-numbers f 1 n (k - 1) d (omega arith) ∙ ap f e
 
 pub rising-upTo : (n : ℕ) → rising 0 (upTo n) ≡ true
 unfolding upTo rising

@@ -13,7 +13,7 @@ use Rattle.model.specs.Actions.{Outcome}
 use Rattle.model.specs.Opening.{opened}
 use Rattle.model.specs.Call.{Words, hl3, step}
 use Rattle.model.specs.Run.{answers}
-use Rattle.model.specs.RunFile.{RunText, Reading, readFile, fileBytes}
+use Rattle.model.specs.RunFile.{FileOpening, openingIn, RunText, Reading, readFile, fileBytes}
 use Rattle.model.specs.Listing.{line, hall-word, decimal, actionLine, endLine, actionLines, runLines, listing}
 use Rattle.model.specs.Cards.{listingRun}
 use Rattle.model.proofs.Computing.{computing}
@@ -54,7 +54,7 @@ lines-close h (w ∷ ws) k y n = closes-after (actionLine k w (o .answer)) (go (
 listing-closes : (file : List ℕ) (x : RunText) → readFile file ≡ Reading.text x → Closes (listing hl3 file) (endOf x)
 unfolding listing runLines
 listing-closes file x e =
-    let lines = lines-close (opened (x .opening)) (x .actions) 1 0 0 in
+    let lines = lines-close (opened (openingIn (x .opening))) (x .actions) 1 0 0 in
     rw (e, listing) (closes-after (line hall-word (decimal (x .opening .size) ∷ [])) (simp zero-add at lines))
 
 -- a listing that does not close so differs there

@@ -1,20 +1,20 @@
--- The P cards of 01's "Bench cards", and the margins, view numbers and representative that 02 names, one list; the proof
+-- The P cards of 01's "Bench cards", and the margins, view numbers, representative and rows that 02 names, one list; the proof
 -- over it is in proofs/Cards. A card is what the definitions give and what 01 or 02 says, as lists of numbers.
 -- Assumes nothing.
 use Prim.Native.Nat.{ℕ}
 use mathlib.Core.Bool.{true, false}
 use mathlib.Core.List.{List, [], _∷_, _++_, map}
-use lib.ListN.{length}
+use lib.ListN.{length, replicate}
 use Rattle.quorum.specs.Sets.{inMask}
 use Rattle.quorum.specs.Votes.{margin, quorum, builtIn}
 use Rattle.model.specs.Hall.{Entries, Service, Recorders, Hall}
 use Rattle.model.specs.Ordering.{Choice, greatestNumbered, chosen}
 use Rattle.model.specs.Answers.{plain, word}
 use Rattle.model.specs.Refusals.{rulesOf}
-use Rattle.model.specs.Opening.{Opening, openingOf, openRefusal, opened}
+use Rattle.model.specs.Opening.{Opening, openingOf, builtInOpening, openRefusal, opened}
 use Rattle.model.specs.Call.{Words, wordsOf, hl3, broken, step, call}
 use Rattle.model.specs.Run.{run, answers}
-use Rattle.model.specs.RunFile.{RunText, fileBytes}
+use Rattle.model.specs.RunFile.{FileOpening, rowGiven, RunText, fileBytes}
 use Rattle.model.specs.Listing.{listing}
 
 pub record Card : Type 0 where
@@ -33,7 +33,7 @@ quorumCard n b = elim (quorum builtIn n (inMask b)) [ true ↦ 1 | false ↦ 0 ]
 unfoldable pub listingRun : RunText
 listingRun =
     record {
-      opening = openingOf 1 1;
+      opening = record { size = 1; founders = 1; third = 0; words = replicate 8 0 };
       actions =
           wordsOf 1 1 700 0
           ∷ wordsOf 2 1 0 0
@@ -71,7 +71,7 @@ listingCard = record { given = listing hl3 (fileBytes listingRun); wanted = list
 unfoldable pub sizeCard : Card
 sizeCard =
     record {
-      given = openRefusal (openingOf 0 0) ∷ openRefusal (openingOf 9 0) ∷ openRefusal (openingOf 8 0) ∷ [];
+      given = openRefusal (builtInOpening 0 0) ∷ openRefusal (builtInOpening 9 0) ∷ openRefusal (builtInOpening 8 0) ∷ [];
       wanted = 16 ∷ 16 ∷ 0 ∷ [];
     }
 
@@ -79,7 +79,7 @@ sizeCard =
 unfoldable pub foundersCard : Card
 foundersCard =
     record {
-      given = openRefusal (openingOf 3 8) ∷ openRefusal (openingOf 3 0) ∷ opened (openingOf 3 0) .service .members 1;
+      given = openRefusal (builtInOpening 3 8) ∷ openRefusal (builtInOpening 3 0) ∷ opened (builtInOpening 3 0) .service .members 1;
       wanted = 16 ∷ 0 ∷ 1 ∷ 2 ∷ 3 ∷ [];
     }
 
@@ -104,13 +104,54 @@ marginCards =
       wanted = 0 ∷ 2 ∷ 4294967292 ∷ 1 ∷ 4294967295 ∷ [];
     }
 
+-- eight vote words
+unfoldable pub rowWith : ℕ → ℕ → ℕ → ℕ → List ℕ
+rowWith v1 v2 v3 v4 = v1 ∷ v2 ∷ v3 ∷ v4 ∷ replicate 4 0
+
+-- "It refuses with 41, directly after 16, a vote above 1,000, a vote other than 0 for a recorder above N, or a row whose votes
+-- are all 0." (02, A4) A vote of 1,000 is taken, a recorder 1 without votes, one vote in the whole hall.
+unfoldable pub rowCard : Card
+rowCard =
+    record {
+      given =
+          openRefusal (openingOf 3 0 (rowWith 1001 1 1 0))
+          ∷ openRefusal (openingOf 3 0 (rowWith 2 1 1 1))
+          ∷ openRefusal (openingOf 3 0 (rowWith 0 0 0 0))
+          ∷ openRefusal (openingOf 3 8 (rowWith 0 0 0 0))
+          ∷ openRefusal (openingOf 3 0 (rowWith 1000 0 1000 0))
+          ∷ openRefusal (openingOf 3 0 (rowWith 0 0 1 0))
+          ∷ [];
+      wanted = 41 ∷ 41 ∷ 41 ∷ 16 ∷ 0 ∷ 0 ∷ [];
+    }
+
+-- the margins of {2, 3}, {1, 2}, {1} and the empty set in a hall of three with votes 5, 3 and 3 (02, A4): a view {2, 3} is
+-- primary there
+unfoldable pub siteCard : Card
+siteCard =
+    let votes = opened (openingOf 3 0 (rowWith 5 3 3 0)) .votes in
+    record {
+      given = map (λ b. word (margin votes 3 (inMask b))) (6 ∷ 3 ∷ 1 ∷ 0 ∷ []);
+      wanted = 1 ∷ 5 ∷ 4294967295 ∷ 4294967285 ∷ [];
+    }
+
+-- "With 0 there the built-in row holds" (02, A4): for N = 3 the row that 0 gives and the one that 1 gives with these words
+-- are the same, so that the two halls are one
+unfoldable pub builtInCard : Card
+builtInCard =
+    record {
+      given =
+          rowGiven (record { size = 3; founders = 0; third = 0; words = rowWith 0 0 0 0 })
+          ++ rowGiven (record { size = 3; founders = 0; third = 1; words = rowWith 2 1 1 0 });
+      wanted = 2 ∷ 1 ∷ 1 ∷ 0 ∷ 0 ∷ 0 ∷ 0 ∷ 0 ∷ 2 ∷ 1 ∷ 1 ∷ 0 ∷ 0 ∷ 0 ∷ 0 ∷ 0 ∷ [];
+    }
+
 -- "P numbers 0 and 256: 14; 255 forms, then 255 again: 33." But "Number 256 on the bench cards now forms a view, and 14
 -- remains for 0 alone." (02, A2) So does the greatest number, and again it is 33.
 unfoldable pub numberCard : Card
 numberCard =
     record {
       given =
-          numbersOf (openingOf 3 0)
+          numbersOf (builtInOpening 3 0)
           (wordsOf 5 0 0 1
           ∷ wordsOf 5 0 255 1
           ∷ wordsOf 5 0 255 1
@@ -144,10 +185,10 @@ lastViewCalls =
 -- the answers; the label's view, the highest primary; what the deliver then gives
 unfoldable pub lastViewCard : Card
 lastViewCard =
-    let h = run hl3 (opened (openingOf 1 1)) lastViewCalls in
+    let h = run hl3 (opened (builtInOpening 1 1)) lastViewCalls in
     record {
       given =
-          numbersOf (openingOf 1 1) lastViewCalls
+          numbersOf (builtInOpening 1 1) lastViewCalls
           ++ (h .entries .labelView 1 ∷ h .recorders .high 1 ∷ plain (step hl3 h (wordsOf 11 1 0 0) .answer) .values);
       wanted =
           0 ∷ 0 ∷ 0 ∷ 0 ∷ 0 ∷ 0 ∷ 0 ∷ 0 ∷ 0 ∷ 0 ∷ 0 ∷ 0 ∷ 0
@@ -180,14 +221,14 @@ healedCalls =
 -- the orders of 2 and 3 then, each after its length, by a choice of the representative
 unfoldable pub healedOrders : Choice → List ℕ
 healedOrders choice =
-    let s = run (rulesOf builtIn choice) (opened (openingOf 3 7)) healedCalls .recorders in
+    let s = run (rulesOf choice) (opened (builtInOpening 3 7)) healedCalls .recorders in
     length (s .order 2) ∷ s .order 2 ++ (length (s .order 3) ∷ s .order 3)
 
 -- the answers; by HL3's choice both have 2's order, the entry; by 01's both had 3's, which is empty
 unfoldable pub longestCard : Card
 longestCard =
     record {
-      given = numbersOf (openingOf 3 7) healedCalls ++ (healedOrders chosen ++ healedOrders greatestNumbered);
+      given = numbersOf (builtInOpening 3 7) healedCalls ++ (healedOrders chosen ++ healedOrders greatestNumbered);
       wanted =
           0 ∷ 0 ∷ 0 ∷ 0 ∷ 0 ∷ 0 ∷ 0 ∷ 0 ∷ 0 ∷ 0 ∷ 0 ∷ 0 ∷ 0 ∷ 0 ∷ 0 ∷ 0
           ∷ 1 ∷ 1 ∷ 1 ∷ 1 ∷ 0 ∷ 0 ∷ [];
@@ -197,7 +238,7 @@ longestCard =
 unfoldable pub enterCard : Card
 enterCard =
     record {
-      given = numbersOf (openingOf 3 0) (wordsOf 5 0 2 1 ∷ wordsOf 5 0 3 1 ∷ wordsOf 6 1 3 0 ∷ wordsOf 6 1 2 0 ∷ []);
+      given = numbersOf (builtInOpening 3 0) (wordsOf 5 0 2 1 ∷ wordsOf 5 0 3 1 ∷ wordsOf 6 1 3 0 ∷ wordsOf 6 1 2 0 ∷ []);
       wanted = 0 ∷ 0 ∷ 0 ∷ 36 ∷ [];
     }
 
@@ -217,9 +258,9 @@ labelCalls =
 -- the answers, then the view and sequence number of the entry's label
 unfoldable pub labelCard : Card
 labelCard =
-    let es = run hl3 (opened (openingOf 3 0)) labelCalls .entries in
+    let es = run hl3 (opened (builtInOpening 3 0)) labelCalls .entries in
     record {
-      given = numbersOf (openingOf 3 0) labelCalls ++ (es .labelView 1 ∷ es .labelSeq 1 ∷ []);
+      given = numbersOf (builtInOpening 3 0) labelCalls ++ (es .labelView 1 ∷ es .labelSeq 1 ∷ []);
       wanted = 0 ∷ 0 ∷ 0 ∷ 37 ∷ 0 ∷ 0 ∷ 0 ∷ 0 ∷ 2 ∷ 1 ∷ [];
     }
 
@@ -230,7 +271,7 @@ orderCard =
       given =
           plain (call hl3 broken (wordsOf 12 0 0 0) .answer) .number
           ∷ plain (call hl3 broken (wordsOf 1 0 0 0) .answer) .number
-          ∷ numbersOf (openingOf 3 0) (wordsOf 6 9 0 0 ∷ []);
+          ∷ numbersOf (builtInOpening 3 0) (wordsOf 6 9 0 0 ∷ []);
       wanted = 11 ∷ 31 ∷ 12 ∷ [];
     }
 
@@ -239,7 +280,7 @@ unfoldable pub safeCard : Card
 safeCard =
     record {
       given =
-          numbersOf (openingOf 2 0)
+          numbersOf (builtInOpening 2 0)
           (wordsOf 1 1 5 0 ∷ wordsOf 2 1 0 0 ∷ wordsOf 3 1 0 0 ∷ wordsOf 7 1 1 0 ∷ wordsOf 8 1 0 0 ∷ wordsOf 9 1 0 0 ∷ []);
       wanted = 0 ∷ 0 ∷ 0 ∷ 0 ∷ 0 ∷ 39 ∷ [];
     }
@@ -251,6 +292,9 @@ cards =
     ∷ foundersCard
     ∷ quorumCards
     ∷ marginCards
+    ∷ rowCard
+    ∷ siteCard
+    ∷ builtInCard
     ∷ numberCard
     ∷ lastViewCard
     ∷ longestCard

@@ -8,7 +8,7 @@ use Rattle.model.specs.Answers.{Answer, accepted}
 use Rattle.model.specs.Opening.{opened}
 use Rattle.model.specs.Call.{hl3}
 use Rattle.model.specs.Run.{answers}
-use Rattle.model.specs.RunFile.{RunText, Reading, readFile}
+use Rattle.model.specs.RunFile.{FileOpening, openingIn, RunText, Reading, readFile}
 use Rattle.model.specs.Listing.{line, hall-word, decimal, endLine, actionLines, refusedLine}
 
 -- how many of the answers are accepted, and how many refused
@@ -22,7 +22,7 @@ refusedCount (x ∷ xs) = elim (accepted x) [ true ↦ 0 | false ↦ 1 ] + refus
 
 -- "`end` with accepted and refused counts"
 abbrev pub endOf : RunText → List ℕ
-endOf x = let xs = answers hl3 (opened (x .opening)) (x .actions) in endLine (acceptedCount xs) (refusedCount xs)
+endOf x = let xs = answers hl3 (opened (openingIn (x .opening))) (x .actions) in endLine (acceptedCount xs) (refusedCount xs)
 
 -- a text that closes with a line
 pub record Closes (text last : List ℕ) : Type 0 where
@@ -41,6 +41,6 @@ unfoldable pub inventedEnd : List ℕ → List ℕ
 inventedEnd file =
     elim (readFile file) [
       | Reading.text x ↦
-          line hall-word (decimal (x .opening .size) ∷ []) ++ actionLines hl3 (opened (x .opening)) 1 7 0 (x .actions)
+          line hall-word (decimal (x .opening .size) ∷ []) ++ actionLines hl3 (opened (openingIn (x .opening))) 1 7 0 (x .actions)
       | Reading.refused k ↦ refusedLine k
     ]

@@ -26,3 +26,8 @@ pub const BLOCK: usize = 16;
 pub const MAX_FILE: usize = 65536;
 
 pub const MAX_ACTIONS: usize = MAX_FILE / BLOCK - 2;
+
+// two more are its vote words, if it has them (02, A4)
+pub const VOTE_BLOCKS: usize = 2;
+
+pub const MAX_ACTIONS_WITH_VOTES: usize = MAX_ACTIONS - VOTE_BLOCKS;

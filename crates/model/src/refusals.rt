@@ -13,9 +13,11 @@ pub const VIEW_NUMBER: u32 = 14;
 pub const SET: u32 = 15;
 // opening with N not 1 to 8, or founders above N
 pub const OPENING: u32 = 16;
+// a vote above 1,000, a vote other than 0 for a recorder above N, or a row whose votes are all 0 (02, A4)
+pub const VOTES: u32 = 41;
 // the slice to open or write into is too short
 pub const SHORT: u32 = 18;
-// the file breaks a rule of run files, or more than 4,094 actions are to be written
+// the file breaks a rule of run files, or more actions are to be written than it holds, or with a third word above 1
 pub const FILE: u32 = 19;
 
 // the bytes are no hall's stored form

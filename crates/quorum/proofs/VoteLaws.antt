@@ -3,24 +3,26 @@
 use Prim.Native.Nat.{ℕ, zero, suc, _+_, _-_, _*_, _≤_, _<_}
 use native.Mathlib.Numerals.{add-one}
 use native.Mathlib.Omega.{arith}
-use mathlib.Core.Bool.{Bool, true, false}
+use mathlib.Core.Bool.{Bool, true, false, not, _&&_, _||_}
 use mathlib.Core.Logic.{_⊎_, inl, inr, ⊎-elim}
 use mathlib.Core.Path.{_≡_, refl, sym, ap, ap₂, _∙_}
-use mathlib.Core.List.{List, [], _∷_}
-use borrow.Author.Tests.{ltb-true, leb-true, eqb-true}
+use mathlib.Core.List.{List, map}
+use borrow.Author.Tests.{ltb-true, leb-true, leb-false, eqb-true, eqb-false, ne-eqb, eq-eqb, le-leb, not-true, not-false}
 use lib.Dec.{eqb, leb, ltb}
 use lib.IntN.{pos, negℤ, subℕ}
-use lib.ListN.{getD}
+use lib.ListN.{length, getD, drop}
+use lib.Seq.{getD-drop}
 use lib.Signed.{_≤ℤ_}
 use mir.Syntax.{w32}
 use mir.Val.{SFits}
 use Rattle.base.specs.Numbers.{upTo}
 use Rattle.base.specs.Lists.{filter, has, all}
-use Rattle.base.proofs.Bools.{and-both}
+use Rattle.base.proofs.Bools.{by-cases, not-both, or-none, and-both, and-true}
 use Rattle.base.proofs.Integers.{sub-sign, sub-range, sub-fits}
-use Rattle.base.proofs.NumbersLaws.{all-upTo}
+use Rattle.base.proofs.ListsLaws.{all-get, get-all}
+use Rattle.base.proofs.NumbersLaws.{all-upTo, get-upTo}
 use Rattle.quorum.specs.Sets.{inMask, members}
-use Rattle.quorum.specs.Votes.{votes, total, margin, quorum, share, builtIn, rowOf, maxVote, smallRow, builtInRow}
+use Rattle.quorum.specs.Votes.{votes, total, margin, quorum, share, builtIn, rowOf, maxVote, smallRow, noVotes, builtInRow, wrongRow}
 use Rattle.quorum.proofs.SetLaws.{has-members}
 
 -- ---- one recorder more
@@ -140,15 +142,24 @@ quorums-meet row n a b p q =
 
 -- ---- the code's count, and eight recorders
 
+-- a recorder's votes in a row
+pub row-at : (row : List ℕ) (k : ℕ) → 1 ≤ k → rowOf row k ≡ getD row (k - 1) 0
+unfolding rowOf
+row-at row k low =
+    let ne : k ≡ 0 → ⊥ = λ e. omega (arith, e) in
+    rw (ne-eqb k 0 ne, rowOf)
+
+pub row-none : (row : List ℕ) → rowOf row 0 ≡ 0
+unfolding rowOf
+row-none row = refl
+
 -- each vote of a small row, blank ones included
-small-vote : (row : List ℕ) → smallRow row ≡ true → (k : ℕ) → rowOf row k ≤ maxVote
-unfolding smallRow all rowOf
-small-vote row small k = at row (k - 1) small
-  where
-    at : (xs : List ℕ) (i : ℕ) → all (λ v. leb v maxVote) xs ≡ true → getD xs i 0 ≤ maxVote
-    at [] i t = omega arith
-    at (x ∷ xs) zero t = leb-true x maxVote (and-both (leb x maxVote) (all (λ v. leb v maxVote) xs) t .0)
-    at (x ∷ xs) (suc i) t = at xs i (and-both (leb x maxVote) (all (λ v. leb v maxVote) xs) t .1)
+pub small-vote : (row : List ℕ) → smallRow row ≡ true → (k : ℕ) → rowOf row k ≤ maxVote
+unfolding smallRow
+small-vote row small k =
+    by-cases (eqb k 0)
+    (λ t. omega (arith, ap (rowOf row) (eqb-true k 0 t) ∙ row-none row))
+    (λ f. omega (arith, row-at row k (omega (arith, eqb-false k 0 f)), leb-true (getD row (k - 1) 0) maxVote (all-get (λ v. leb v maxVote) refl row (k - 1) small)))
 
 pub small-share : (row : List ℕ) → smallRow row ≡ true → (t : Bool) (k : ℕ) → share t (rowOf row k) ≤ maxVote
 small-share row small t k = omega (arith, share-most t (rowOf row k), small-vote row small k)
@@ -159,14 +170,119 @@ unfolding total inMask filter upTo
 votes-all row n h =
     votes-same row n (inMask 255) (λ k. true) (λ k low high. all-upTo (inMask 255) 8 refl k low (omega arith))
 
-pub built-in-row : Same 8 (rowOf builtInRow) builtIn
-unfolding rowOf builtIn filter upTo
-built-in-row k low high =
-    eqb-true _ _ (all-upTo (λ j. eqb (rowOf builtInRow j) (builtIn j)) 8 refl k low high)
+-- ---- the rows that a site may give
 
-pub margin-built-in : (n : ℕ) (s : ℕ → Bool) → n ≤ 8 → margin (rowOf builtInRow) n s ≡ margin builtIn n s
+-- a row written as the list of what a function gives
+pub listed-row : (f : ℕ → ℕ) (m k : ℕ) → 1 ≤ k → k ≤ m → rowOf (map f (upTo m)) k ≡ f k
+listed-row f m k low high = row-at (map f (upTo m)) k low ∙ get-upTo f m k 0 low high
+
+-- a row's total is at least each recorder's votes
+total-at : (row : ℕ → ℕ) (n k : ℕ) → 1 ≤ k → k ≤ n → row k ≤ total row n
+unfolding total votes
+total-at row zero k low high = absurd (omega arith)
+total-at row (suc n) k low high =
+    by-cases (eqb k (suc n))
+    (λ t. omega (arith, ap row (eqb-true k (suc n) t)))
+    (λ f. omega (arith, total-at row n k low (omega (arith, eqb-false k (suc n) f))))
+
+-- and 0 if each of these is
+pub total-none : (row : ℕ → ℕ) (n : ℕ) → ((k : ℕ) → row k ≡ 0) → total row n ≡ 0
+unfolding total votes
+total-none row zero z = refl
+total-none row (suc n) z = omega (arith, z (suc n), total-none row n z)
+
+-- what 41 leaves: votes of at most 1,000, none above n, and not none at all
+pub record Right (n : ℕ) (row : ℕ → ℕ) : Type 0 where
+  pub small : (k : ℕ) → row k ≤ maxVote
+  pub none : row 0 ≡ 0
+  pub noneAbove : (k : ℕ) → n < k → row k ≡ 0
+  pub some : 0 < total row n
+
+module _ (n : ℕ) (row : List ℕ) where
+  place : (i : ℕ) → getD row i 0 ≡ rowOf row (i + 1)
+  place i =
+      let e : i + 1 - 1 ≡ i = omega arith in
+      ap (λ (j : ℕ). getD row j 0) (sym e) ∙ sym (row-at row (i + 1) (omega arith))
+
+  above : noVotes (drop n row) ≡ true → (k : ℕ) → n < k → rowOf row k ≡ 0
+  unfolding noVotes
+  above t k h =
+      let e : n + (k - 1 - n) ≡ k - 1 = omega arith in
+      row-at row k (omega arith)
+      ∙ ap (λ (i : ℕ). getD row i 0) (sym e)
+      ∙ sym (getD-drop n row (k - 1 - n) 0)
+      ∙ eqb-true _ 0 (all-get (λ v. eqb v 0) refl (drop n row) (k - 1 - n) t)
+
+  -- each vote of a row without votes is 0
+  all-none : noVotes row ≡ true → (k : ℕ) → rowOf row k ≡ 0
+  unfolding noVotes
+  all-none t k =
+      by-cases (eqb k 0)
+      (λ z. ap (rowOf row) (eqb-true k 0 z) ∙ row-none row)
+      (λ f. row-at row k (omega (arith, eqb-false k 0 f)) ∙ eqb-true _ 0 (all-get (λ v. eqb v 0) refl row (k - 1) t))
+
+  none-all : ((k : ℕ) → rowOf row k ≡ 0) → noVotes row ≡ true
+  unfolding noVotes
+  none-all z =
+      get-all (λ v. eqb v 0) row (λ i. eq-eqb (getD row i 0) 0 (place i ∙ z (i + 1)))
+
+  -- a row that 41 takes is right, and a right one it takes
+  pub right-row : wrongRow n row ≡ false → Right n (rowOf row)
+  unfolding wrongRow
+  right-row e =
+      let p = or-none (not (smallRow row && noVotes (drop n row))) (noVotes row) e in
+      let q = and-both (smallRow row) (noVotes (drop n row)) (not-false (smallRow row && noVotes (drop n row)) (p .0)) in
+      record {
+        small = small-vote row (q .0);
+        none = row-none row;
+        noneAbove = above (q .1);
+        some =
+            by-cases (eqb (total (rowOf row) n) 0)
+            (λ t. absurd (not-both (none-all (each (q .1) (eqb-true (total (rowOf row) n) 0 t))) (p .1)))
+            (λ f. omega (arith, eqb-false (total (rowOf row) n) 0 f));
+      }
+    where
+      each : noVotes (drop n row) ≡ true → total (rowOf row) n ≡ 0 → (k : ℕ) → rowOf row k ≡ 0
+      each t z k =
+          by-cases (leb k n)
+          (λ l.
+          by-cases (eqb k 0)
+          (λ u. ap (rowOf row) (eqb-true k 0 u) ∙ row-none row)
+          (λ f. omega (arith, total-at (rowOf row) n k (omega (arith, eqb-false k 0 f)) (leb-true k n l))))
+          (λ l. above t k (leb-false k n l))
+
+  all-small : Right n (rowOf row) → smallRow row ≡ true
+  unfolding smallRow
+  all-small r = get-all (λ v. leb v maxVote) row (λ i. le-leb (getD row i 0) maxVote (omega (arith, place i, r .small (i + 1))))
+
+  none-left : Right n (rowOf row) → noVotes (drop n row) ≡ true
+  unfolding noVotes
+  none-left r =
+      get-all (λ v. eqb v 0) (drop n row)
+      (λ i. eq-eqb (getD (drop n row) i 0) 0 (getD-drop n row i 0 ∙ place (n + i) ∙ r .noneAbove (n + i + 1) (omega arith)))
+
+  pub right-taken : Right n (rowOf row) → wrongRow n row ≡ false
+  unfolding wrongRow
+  right-taken r =
+      let few : smallRow row && noVotes (drop n row) ≡ true = and-true _ _ (all-small r) (none-left r) in
+      ap₂ (λ (s t : Bool). not s || t) few (by-cases (noVotes row) (λ t. absurd (lost t)) (λ f. f))
+    where
+      lost : noVotes row ≡ true → ⊥
+      lost t = omega (arith, r .some, total-none (rowOf row) n (all-none t))
+
+-- the built-in row is one of them, and counts as 01's
+pub built-in-taken : (n : ℕ) → 1 ≤ n → n ≤ 8 → wrongRow n (builtInRow n) ≡ false
+unfolding wrongRow builtInRow smallRow noVotes all upTo filter builtIn share
+built-in-taken n low high = not-true _ (all-upTo (λ k. not (wrongRow k (builtInRow k))) 8 refl n low high)
+
+pub built-in-row : (n : ℕ) → n ≤ 8 → Same n (rowOf (builtInRow n)) builtIn
+unfolding builtInRow share
+built-in-row n most k low high =
+    listed-row (λ j. share (leb j n) (builtIn j)) 8 k low (omega arith) ∙ rw (le-leb k n high)
+
+pub margin-built-in : (n : ℕ) (s : ℕ → Bool) → n ≤ 8 → margin (rowOf (builtInRow n)) n s ≡ margin builtIn n s
 margin-built-in n s h =
-    margin-agree (rowOf builtInRow) builtIn n s s (λ k low high. built-in-row k low (omega arith)) (λ k low high. refl)
+    margin-agree (rowOf (builtInRow n)) builtIn n s s (built-in-row n h) (λ k low high. refl)
 
 -- of three recorders, 1 and 2 are a quorum, and 2 and 3 have but half the votes
 three-yes : quorum builtIn 3 (inMask 3) ≡ true

@@ -1,15 +1,16 @@
--- Votes, margins and quorums. 01, "Votes and views"; 02, A1. The row of votes is an argument; the built-in row is one
--- instance.
+-- Votes, margins and quorums, and which rows of votes a site may give. 01, "Votes and views"; 02, A1 and A4. The row of votes
+-- is an argument; the built-in row is one instance.
 -- A set is given by its test, ℕ → Bool, so that a mask (`inMask b`) and a list (`has xs`) both serve.
 -- Assumes nothing.
 use Prim.Native.Nat.{ℕ, zero, suc, _+_, _-_, _*_}
-use mathlib.Core.Bool.{Bool, true, false}
-use mathlib.Core.List.{List, [], _∷_}
+use mathlib.Core.Bool.{Bool, true, false, not, _&&_, _||_}
+use mathlib.Core.List.{List, map}
 use lib.Dec.{eqb, leb}
 use lib.IntN.{ℤ, pos, subℕ}
-use lib.ListN.{getD}
+use lib.ListN.{getD, drop}
 use lib.Signed.{ltZ}
 use Rattle.base.specs.Lists.{all}
+use Rattle.base.specs.Numbers.{upTo}
 
 -- the votes of recorders 1 to n that are in the set s
 unfoldable pub votes : (ℕ → ℕ) → ℕ → (ℕ → Bool) → ℕ
@@ -36,18 +37,28 @@ share t v = elim t [ true ↦ v | false ↦ 0 ]
 unfoldable pub builtIn : ℕ → ℕ
 builtIn k = elim (eqb k 1) [ true ↦ 2 | false ↦ 1 ]
 
--- recorder k's votes in a row written as a list: recorder 1 first
+-- ## Rows written as lists
+
+-- recorder k's votes in a row written as a list, recorder 1 first; none where there is no such recorder
 unfoldable pub rowOf : List ℕ → ℕ → ℕ
-rowOf row k = getD row (k - 1) 0
+rowOf row k = elim (eqb k 0) [ true ↦ 0 | false ↦ getD row (k - 1) 0 ]
+
+-- the built-in row of n recorders, "eight vote words" (02, A4): 0 above n
+unfoldable pub builtInRow : ℕ → List ℕ
+builtInRow n = map (λ k. share (leb k n) (builtIn k)) (upTo 8)
 
 -- "0 to 1,000 each" (02, A4)
 abbrev pub maxVote : ℕ
 maxVote = 1000
 
--- is each vote of a row written as a list at most that?
+-- is each vote of a row at most that?
 unfoldable pub smallRow : List ℕ → Bool
 smallRow row = all (λ v. leb v maxVote) row
 
--- the built-in row as such a list
-abbrev pub builtInRow : List ℕ
-builtInRow = 2 ∷ 1 ∷ 1 ∷ 1 ∷ 1 ∷ 1 ∷ 1 ∷ 1 ∷ []
+-- is each 0?
+unfoldable pub noVotes : List ℕ → Bool
+noVotes row = all (λ v. eqb v 0) row
+
+-- 41: "a vote above 1,000, a vote other than 0 for a recorder above N, or a row whose votes are all 0" (02, A4)
+unfoldable pub wrongRow : ℕ → List ℕ → Bool
+wrongRow n row = not (smallRow row && noVotes (drop n row)) || noVotes row

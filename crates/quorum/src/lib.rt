@@ -1,14 +1,17 @@
-// Sets, votes and margins of a hall (document 01, "Votes and views"; 02, A1). For the crates of this repository: a
-// `requires` is met by each caller's proof.
+// Sets, votes and margins of a hall, and the rows of votes (document 01, "Votes and views"; 02, A1 and A4). For the crates of
+// this repository: a `requires` is met by each caller's proof.
 
 ghost use mathlib.Core.Path.{_≡_};
 ghost use mathlib.Core.Bool.{true};
 ghost use Prim.Native.Nat.{_-_, _^_, _≤_};
+ghost use lib.Dec.{leb};
+ghost use lib.ListN.{drop};
 ghost use Rattle.quorum.specs.Sets.{inMask};
-ghost use Rattle.quorum.specs.Votes.{votes, margin, share, builtIn, rowOf, smallRow};
+ghost use Rattle.quorum.specs.Votes.{votes, margin, share, builtIn, rowOf};
+ghost use Rattle.quorum.specs.Votes.{builtInRow, smallRow, noVotes, wrongRow};
 
-// "Recorder 1 has 2 votes, recorders 2 to 8 have 1 each."
-const BUILT_IN: [u32; 8] = [2, 1, 1, 1, 1, 1, 1, 1];
+// "0 to 1,000 each" (02, A4).
+pub const MAX_VOTE: u32 = 1000;
 
 // The set of all eight recorders.
 const ALL: u32 = 255;
@@ -58,17 +61,74 @@ fn votes(row: &[u32; 8], n: u32, set: u32) -> u32
 }
 
 // The margin of a set: "twice the set's votes less the votes of the whole hall" (02, A1), recorders 1 to n.
-fn margin(row: &[u32; 8], n: u32, set: u32) -> i32
+pub fn margin(row: &[u32; 8], n: u32, set: u32) -> i32
     requires { ⌜ (n ≤ 8) × (smallRow (now row) ≡ true) ⌝ }
     ensures { λ m. ⌜ m ≡ margin (rowOf (now (row .entry))) n (inMask set) ⌝ }
 {
     (2 * votes(row, n, set)) as i32 - votes(row, n, ALL) as i32
 }
 
-// The margin with the built-in row.
-pub fn built_in_margin(n: u32, set: u32) -> i32
-    requires { ⌜ n ≤ 8 ⌝ }
-    ensures { λ m. ⌜ m ≡ margin builtIn n (inMask set) ⌝ }
+// "Recorder 1 has 2 votes, recorders 2 to 8 have 1 each", and none above n: recorder k's.
+fn built_in(n: u32, k: u32) -> u32
+    ensures { λ r. ⌜ r ≡ share (leb k n) (builtIn k) ⌝ }
 {
-    margin(&BUILT_IN, n, set)
+    if n < k {
+        return 0;
+    }
+    if k == 1 { 2 } else { 1 }
+}
+
+// The built-in row of n recorders.
+pub fn built_in_row(n: u32) -> [u32; 8]
+    ensures { λ r. ⌜ r ≡ builtInRow n ⌝ }
+{
+    [
+        built_in(n, 1),
+        built_in(n, 2),
+        built_in(n, 3),
+        built_in(n, 4),
+        built_in(n, 5),
+        built_in(n, 6),
+        built_in(n, 7),
+        built_in(n, 8),
+    ]
+}
+
+// Is each vote of a row at most 1,000?
+fn is_small(row: [u32; 8]) -> bool
+    ensures { λ r. ⌜ r ≡ smallRow row ⌝ }
+{
+    let mut i = 0;
+    while i < 8 {
+        if MAX_VOTE < row[i] {
+            return false;
+        }
+        i += 1;
+    }
+    true
+}
+
+// Is each vote past the first n recorders' 0?
+fn none_above(row: [u32; 8], n: usize) -> bool
+    ensures { λ r. ⌜ r ≡ noVotes (drop n row) ⌝ }
+{
+    let mut i = n;
+    while i < 8 {
+        if row[i] != 0 {
+            return false;
+        }
+        i += 1;
+    }
+    true
+}
+
+// 41: "a vote above 1,000, a vote other than 0 for a recorder above N, or a row whose votes are all 0" (02, A4).
+pub fn wrong_row(n: u32, row: [u32; 8]) -> bool
+    ensures { λ r. ⌜ r ≡ wrongRow n row ⌝ }
+{
+    if is_small(row) & none_above(row, n as usize) {
+        none_above(row, 0)
+    } else {
+        true
+    }
 }

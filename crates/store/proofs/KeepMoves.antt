@@ -313,7 +313,7 @@ module _ (rules : Rules) (h : Hall) (f : Facts h) (r q : ℕ) where
       (learnt-facts e (here-in h f r (c .inView) .0) (arrived h f _ _ _ (c .here) .1)) (f .sources) (c .here)
 
   -- and joins the order of a primary view
-  keep-joined : (e : ℕ) → CanReceive h r q (entry e) → isPrimary rules h (current h r) ≡ true
+  keep-joined : (e : ℕ) → CanReceive h r q (entry e) → isPrimary h (current h r) ≡ true
       → noRoomToReceive rules h r (queued q (entry e)) ≡ false → Facts (afterReceive h r (joined h r e))
   unfolding noRoomToReceive orderFull
   keep-joined e c primary room =
@@ -322,7 +322,7 @@ module _ (rules : Rules) (h : Hall) (f : Facts h) (r q : ℕ) where
       keep-receive h f r (queued q (entry e)) (c .inView) _
       (at-order (learnt-facts e i n) i _
       (within-push _ maxOrder (h .recorders .order r) e
-      (leb-false _ _ (second (isPrimary rules h (current h r)) _ room primary)) (f .recorders .order .holds r) n))
+      (leb-false _ _ (second (isPrimary h (current h r)) _ room primary)) (f .recorders .order .holds r) n))
       (f .sources) (c .here)
 
   -- a summary is heard
@@ -362,7 +362,7 @@ module _ (rules : Rules) (h : Hall) (f : Facts h) (r q : ℕ) where
         let ok : (q : ℕ) → SummaryFacts (h .entries) (y q) = λ q. f .sums .summary q g in
         let rep = rules .chosenrep g in
         let ms = membersOf h g in
-        let primary = isPrimary rules h g in
+        let primary = isPrimary h g in
         keep-receive h f r (queued q summary) (c .inView) _
         (at-confirm
         (at-order

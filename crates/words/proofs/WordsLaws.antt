@@ -14,7 +14,7 @@ use Rattle.base.specs.Chains.{refuse, _⨾_}
 use Rattle.base.proofs.Bools.{by-cases, true-or-false, not-both}
 use Rattle.base.proofs.NumbersLaws.{within-both}
 use Rattle.model.specs.Hall.{maxRecorders}
-use Rattle.model.specs.Opening.{wrongOpening, openingOf}
+use Rattle.model.specs.Opening.{wrongOpening}
 use Rattle.model.specs.Kinds as model
 use Rattle.model.specs.Kinds.{Kind, uses, wrongRecorder, strayWord, wrongNumber, wrongSet, inputRefusal}
 use Rattle.words.specs.declared.Uses.{Uses}
@@ -58,7 +58,7 @@ inside low high x e = within-both low high x (by-cases (within low high x) (λ t
 -- ## 16 by its two tests
 
 -- where N is outside 1 to 8, or the founders are above N
-pub by-size : (n f : ℕ) {t : Bool} → not (within 1 maxRecorders n) ≡ t → wrongOpening (openingOf n f) ≡ (t || leb (2 ^ n) f)
+pub by-size : (n f : ℕ) {t : Bool} → not (within 1 maxRecorders n) ≡ t → wrongOpening n f ≡ (t || leb (2 ^ n) f)
 unfolding wrongOpening
 by-size n f e = either (within 1 maxRecorders n) ∙ ap (λ t. t || leb (2 ^ n) f) e
   where

@@ -1,4 +1,4 @@
-// Refusals "because of the input", 12 to 16: those of a kind by the table of kinds, that of an opening, and how two
+// Refusals "because of the input", 12 to 16 and 41: those of a kind by the table of kinds, those of an opening, and how two
 // refusals come in turn. For the crates of this repository: a `requires` is met by each caller's proof.
 ghost use mathlib.Core.Path.{_≡_};
 ghost use mathlib.Core.Bool.{not};
@@ -8,11 +8,12 @@ ghost use Rattle.base.specs.Numbers.{within};
 ghost use Rattle.base.specs.Chains.{refuse, _⨾_};
 ghost use Rattle.model.specs.Hall.{maxRecorders};
 ghost use Rattle.model.specs.Kinds.{lastKind, uses, wrongRecorder, strayWord, wrongNumber, wrongSet, inputRefusal};
-ghost use Rattle.model.specs.Opening.{wrongOpening, openingOf};
+ghost use Rattle.model.specs.Opening.{wrongOpening, openingOf, openRefusal};
 ghost use Rattle.words.specs.Words.{kindAt, useOf, usesOf};
 use model::kinds;
 use model::limits::MAX_RECORDERS;
 use model::refusals;
+use quorum::wrong_row;
 
 // "N, 1 to 8"
 const RECORDERS: u32 = MAX_RECORDERS as u32;
@@ -109,8 +110,8 @@ fn wrong_set(n: u32, u: Use, w: u32) -> bool
 }
 
 // 16: "opening with N not 1 to 8, or founders above N"
-pub fn wrong_opening(n: u32, founders: u32) -> bool
-    ensures { λ x. ⌜ x ≡ wrongOpening (openingOf n founders) ⌝ }
+fn wrong_opening(n: u32, founders: u32) -> bool
+    ensures { λ x. ⌜ x ≡ wrongOpening n founders ⌝ }
 {
     is_outside(1, RECORDERS, n) || names_above(n, founders)
 }
@@ -145,4 +146,13 @@ pub fn input_refusal(n: u32, k: u32, r: u32, a: u32, b: u32) -> u32
     );
     let set = refusal(wrong_set(n, of_a, a) | wrong_set(n, of_b, b), refusals::SET);
     first(recorder, first(stray, first(number, set)))
+}
+
+// 16, and 41 "directly after 16" (02, A4), of an opening with a row of votes; 0 for none.
+pub fn opening_refusal(n: u32, founders: u32, row: [u32; 8]) -> u32
+    ensures { λ x. ⌜ x ≡ openRefusal (openingOf n founders row) ⌝ }
+{
+    let size = refusal(wrong_opening(n, founders), refusals::OPENING);
+    let votes = refusal(wrong_row(n, row), refusals::VOTES);
+    first(size, votes)
 }

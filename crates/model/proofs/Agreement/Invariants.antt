@@ -183,12 +183,12 @@ KnownOf h =
 
 abbrev pub OrdersOf : Rules → Hall → Type 0
 OrdersOf rules h =
-    Orders (h .service .members) (isPrimary rules h) (h .service .current) (received (h .service)) (built rules h)
+    Orders (h .service .members) (isPrimary h) (h .service .current) (received (h .service)) (built rules h)
     (h .recorders .order) (h .recorders .high)
 
 abbrev pub SafesOf : Rules → Hall → Type 0
 SafesOf rules h =
-    Safes (h .service .members) (isPrimary rules h) (h .service .current) (received (h .service)) (noticed (h .service))
+    Safes (h .service .members) (isPrimary h) (h .service .current) (received (h .service)) (noticed (h .service))
     (full rules h) (h .recorders .safe) (h .recorders .safeSources)
 
 abbrev pub OwnOf : Hall → Type 0
@@ -198,7 +198,7 @@ OwnOf h =
 
 abbrev pub InfosOf : Rules → Hall → Type 0
 InfosOf rules h =
-    Infos (h .service .members) (isPrimary rules h) (h .service .current) (estOf h) (built rules h) (h .summaries .sent)
+    Infos (h .service .members) (isPrimary h) (h .service .current) (estOf h) (built rules h) (h .summaries .sent)
     (h .summaries .summary) (h .recorders .order) (h .recorders .confirm) (h .recorders .high)
 
 -- all of them

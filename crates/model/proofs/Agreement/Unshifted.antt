@@ -15,7 +15,6 @@ use Rattle.base.proofs.ListsLaws.{has-none, in-filter}
 use Rattle.base.proofs.Greatest.{greatest-above, tops-in}
 use Rattle.base.proofs.Bools.{by-cases, not-both}
 use Rattle.base.proofs.Begins.{begins-refl, begins-trans, begins-append, begins-both, begins-nil, begins-more, begins-whole}
-use Rattle.quorum.specs.Votes.{builtIn}
 use Rattle.model.specs.Hall.{Message, Service, Summary, Summaries, Recorders, Hall}
 use Rattle.model.specs.Ordering.{completes, maxprimary, reps, longestOrder, chosen}
 use Rattle.model.specs.Answers.{accepted}
@@ -61,10 +60,10 @@ module _ (rules : Rules) (h : Hall) where
 
 -- ## The last summary
 
-module _ (row : ℕ → ℕ) (h : Hall) (inv : Inv (rulesOf row longestOrder) h) (r q : ℕ) (c : CanReceive h r q Message.summary)
+module _ (h : Hall) (inv : Inv (rulesOf longestOrder) h) (r q : ℕ) (c : CanReceive h r q Message.summary)
     (t : completes r (h .service .members (h .service .current r)) (told h r q) ≡ true) where
   abbrev rules : Rules
-  rules = rulesOf row longestOrder
+  rules = rulesOf longestOrder
 
   abbrev g : ℕ
   g = h .service .current r
@@ -134,19 +133,19 @@ module _ (row : ℕ → ℕ) (h : Hall) (inv : Inv (rulesOf row longestOrder) h)
 still : (h : Hall) (p : ℕ) → Unshifted h h p
 still h p = inl (begins-refl (h .recorders .order p))
 
-move-unshifted : (row : ℕ → ℕ) (h h′ : Hall) → Move (rulesOf row longestOrder) h h′ → Inv (rulesOf row longestOrder) h → (p : ℕ) → Unshifted h h′ p
-move-unshifted row h h′ mv inv =
-    order-by (rulesOf row longestOrder) h h′ mv (λ p l. Begins (h .recorders .order p) l ⊎ Overtaken h p) (still h)
-    (λ r e. inl (begins-append (h .recorders .order r) (e ∷ []))) (last-unshifted row h inv)
+move-unshifted : (h h′ : Hall) → Move (rulesOf longestOrder) h h′ → Inv (rulesOf longestOrder) h → (p : ℕ) → Unshifted h h′ p
+move-unshifted h h′ mv inv =
+    order-by (rulesOf longestOrder) h h′ mv (λ p l. Begins (h .recorders .order p) l ⊎ Overtaken h p) (still h)
+    (λ r e. inl (begins-append (h .recorders .order r) (e ∷ []))) (last-unshifted h inv)
 
 -- from any opening that is taken, after any list of calls, one call more
 pub unshifted : (o : Opening) → openRefusal o ≡ 0 → (ws : List Words) (w : Words) (p : ℕ)
     → Unshifted (run hl3 (opened o) ws) (step hl3 (run hl3 (opened o) ws) w .hall) p
 unfolding hl3 chosen
 unshifted o none-refused ws w p =
-    let rules = rulesOf builtIn longestOrder in
+    let rules = rulesOf longestOrder in
     let h = run rules (opened o) ws in
     let inv : Inv rules h = inv-run rules (λ g. longest-fair) (opened o) ws (inv-opened rules o) in
     by-cases (accepted (step rules h w .answer))
-    (λ t. move-unshifted builtIn h (step rules h w .hall) (accepted-moves rules h w (inv .marks .low, inv .marks .lowSafe) t) inv p)
+    (λ t. move-unshifted h (step rules h w .hall) (accepted-moves rules h w (inv .marks .low, inv .marks .lowSafe) t) inv p)
     (λ f. subst (λ h′. Unshifted h h′ p) (sym (refused-same rules h w f)) (still h p))

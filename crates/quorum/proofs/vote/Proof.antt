@@ -1,7 +1,8 @@
 -- By whether the recorder is in the set. Assumes nothing.
 use mathlib.Core.Path.{sym, _∙_}
 use borrow.Author.Needs.{needs}
-use Rattle.quorum.specs.Votes.{share, rowOf}
+use Rattle.quorum.specs.Votes.{share}
+use Rattle.quorum.proofs.VoteLaws.{row-at}
 use Rattle.quorum.proofs.vote.Statement.{statement}
 use Rattle.quorum.proofs.vote.Tie as tie
 
@@ -18,8 +19,10 @@ element-copy-out-result : tie.Need-element-copy-out-result
 element-copy-out-result c = search needs
 
 returns : tie.Need-returns
-unfolding share rowOf
-returns c = rw (sym (c .before .before .in-mask .ensures) ∙ c .before .if1 .taken)
+unfolding share
+returns c =
+    let a = c .before .before .before .args in
+    rw (sym (c .before .before .in-mask .ensures) ∙ c .before .if1 .taken) (sym (row-at (a .row .now) (a .k) (search needs)))
 
 returns-2 : tie.Need-returns-2
 unfolding share
