@@ -16,12 +16,12 @@ use Rattle.codec.specs.Number.{number}
 use Rattle.codec.specs.Pair.{given}
 use Rattle.codec.specs.Table.{Tabled, table}
 use Rattle.codec.proofs.TableLaws.{all-keys, each-key}
-use Rattle.store.specs.Valid.{QueueIn, InRange, ValidHall}
+use Rattle.store.specs.Valid.{QueueIn, VotesIn, InRange, ValidHall}
 use Rattle.store.specs.Cells.{RecorderCell, blankRecorder, recorderAt, EndpointCell, blankEndpoint, endpointAt}
-use Rattle.store.specs.CellForms.{recorderForm, endpointForm, queueForm}
+use Rattle.store.specs.CellForms.{recorderForm, endpointForm, queueForm, voteForm}
 use Rattle.store.specs.ViewForm.{viewsForm}
-use Rattle.store.specs.HallForm.{recordersForm, rowForm, networkForm, queuesForm, bodyForm, afterSize, fields, hallFields, hallForm}
-use Rattle.store.proofs.Ranges.{outside-keys, numbered, numbered-in, numbered-out, entries-ok, recorder-ok, recorder-blank, endpoint-ok, endpoint-blank, queue-ok}
+use Rattle.store.specs.HallForm.{recordersForm, rowForm, networkForm, queuesForm, votesForm, bodyForm, afterSize, fields, hallFields, hallForm}
+use Rattle.store.proofs.Ranges.{outside-keys, numbered, numbered-in, numbered-out, entries-ok, recorder-ok, recorder-blank, endpoint-ok, endpoint-blank, queue-ok, vote-ok}
 
 module _ (h : Hall) where
   abbrev created : List ℕ
@@ -34,7 +34,7 @@ module _ (h : Hall) where
   recorder = recorderAt (h .service .current) (h .recorders)
 
   form-in : InRange h → hallFields .ok h
-  unfolding hallFields renamed mapped fields afterSize bodyForm given number viewsForm recordersForm networkForm rowForm queuesForm table
+  unfolding hallFields renamed mapped fields afterSize bodyForm given number viewsForm recordersForm networkForm rowForm queuesForm votesForm table
   form-in w = (
     w .size,
     (
@@ -52,10 +52,13 @@ module _ (h : Hall) where
                   outside = λ g k. endpoint-blank (h .service) (h .summaries) p g .0 (w .endpointBlank p g (inr k));
                 })
                 (λ p o. fun-ext (λ g. endpoint-blank (h .service) (h .summaries) p g .0 (w .endpointBlank p g (inl o)))),
-            record {
-              inside = all-keys (queueForm .ok) (h .service .queue) created (λ g k. queue-ok (h .service .queue g) .0 (w .queueLength g, w .queue g));
-              outside = w .queueBlank;
-            },
+            (
+              record {
+                inside = all-keys (queueForm .ok) (h .service .queue) created (λ g k. queue-ok (h .service .queue g) .0 (w .queueLength g, w .queue g));
+                outside = w .queueBlank;
+              },
+              numbered voteForm (h .size) maxRecorders 0 (h .votes) (λ r l u. vote-ok (h .votes r) .0 (w .votes .atMost r l u)) (w .votes .blank),
+            ),
           ),
         ),
       ),
@@ -64,12 +67,12 @@ module _ (h : Hall) where
 
   module _ (o : hallFields .ok h) where
     rows : Tabled (rowForm created) (numbers 1 (h .size)) maxRecorders (λ g. blankEndpoint) endpoint
-    unfolding hallFields renamed mapped fields afterSize bodyForm given number viewsForm recordersForm networkForm rowForm queuesForm table
+    unfolding hallFields renamed mapped fields afterSize bodyForm given number viewsForm recordersForm networkForm rowForm queuesForm votesForm table
     rows = o .1 .1 .1 .1 .0
 
     queues : Tabled queueForm created maxViews [] (h .service .queue)
-    unfolding hallFields renamed mapped fields afterSize bodyForm given number viewsForm recordersForm networkForm rowForm queuesForm table
-    queues = o .1 .1 .1 .1 .1
+    unfolding hallFields renamed mapped fields afterSize bodyForm given number viewsForm recordersForm networkForm rowForm queuesForm votesForm table
+    queues = o .1 .1 .1 .1 .1 .0
 
     row : (p : ℕ) → 1 ≤ p → p ≤ h .size → Tabled endpointForm created maxViews blankEndpoint (endpoint p)
     unfolding rowForm table mapped
@@ -92,10 +95,14 @@ module _ (h : Hall) where
         (λ k. subst (λ (ms : List Queued). (length ms ≤ maxQueue) × QueueIn ms) (sym (queues .outside g k)) (omega arith, tt))
 
     in-form : InRange h
-    unfolding hallFields renamed mapped fields afterSize bodyForm given number viewsForm recordersForm networkForm rowForm queuesForm table
+    unfolding hallFields renamed mapped fields afterSize bodyForm given number viewsForm recordersForm networkForm rowForm queuesForm votesForm table
     in-form =
         record {
           size = o .0;
+          votes = record {
+            atMost = λ r l u. vote-ok (h .votes r) .1 (numbered-in voteForm (h .size) maxRecorders 0 (h .votes) (o .1 .1 .1 .1 .1 .1) r l u);
+            blank = numbered-out voteForm (h .size) maxRecorders 0 (h .votes) (o .1 .1 .1 .1 .1 .1);
+          };
           entries = entries-ok (h .size) (h .entries) .1 (o .1 .1 .0);
           views = o .1 .0;
           recorder = λ r l u. recorder-ok (h .service .current) (h .recorders) r .1

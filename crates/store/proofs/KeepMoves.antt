@@ -54,6 +54,7 @@ module _ (h : Hall) (f : Facts h) where
   with-parts es v x s entries views recorders sources sums traffic next nextSafe =
       record {
         size = f .size;
+        votes = f .votes;
         entries = entries;
         views = views;
         recorders = recorders;

@@ -109,7 +109,8 @@ pub const MESSAGES: usize = MAX_QUEUE * QUEUED;
 pub const QUEUE: usize = 1 + MESSAGES;
 
 // The whole: N; the formed views, their count first; the entries, their count first; the recorders, recorder r in cell
-// r - 1; the network, a row of endpoints for each recorder, by index among the formed views; the queues, by index likewise.
+// r - 1; the network, a row of endpoints for each recorder, by index among the formed views; the queues, by index likewise; the
+// votes, recorder r's in cell r - 1.
 pub const VIEW_COUNT: usize = 1;
 
 pub const VIEWS: usize = VIEW_COUNT + 1;
@@ -126,4 +127,6 @@ pub const NETWORK: usize = RECORDERS + MAX_RECORDERS * RECORDER;
 
 pub const QUEUES: usize = NETWORK + MAX_RECORDERS * ROW;
 
-pub const LENGTH: usize = QUEUES + MAX_VIEWS * QUEUE;
+pub const VOTES: usize = QUEUES + MAX_VIEWS * QUEUE;
+
+pub const LENGTH: usize = VOTES + MAX_RECORDERS * WORD;
