@@ -6,7 +6,7 @@ use mathlib.Core.List.{List, [], _∷_}
 use lib.ListN.{take}
 use Rattle.codec.specs.Bytes.{zeros}
 use Rattle.model.specs.Answers.{refused}
-use Rattle.model.specs.Opening.{openingOf, opened}
+use Rattle.model.specs.Opening.{builtInOpening, opened}
 use Rattle.model.specs.Call.{wordsOf}
 use Rattle.store.specs.Layout.{storedLength}
 use Rattle.store.specs.StoredForm.{stored}
@@ -30,7 +30,7 @@ kindOne b = record { given = stepOn b (wordsOf 1 0 0 0); wanted = record { answe
 
 -- a hall's form without its last byte
 abbrev pub cutShort : List ℕ
-cutShort = take (storedLength - 1) (stored (opened (openingOf 2 0)))
+cutShort = take (storedLength - 1) (stored (opened (builtInOpening 2 0)))
 
 -- no bytes, too few bytes, zero bytes alone (N is 0)
 unfoldable pub brokenCards : List ByteCard

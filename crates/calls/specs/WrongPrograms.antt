@@ -10,7 +10,7 @@ use lib.ListN.{length}
 use Rattle.base.specs.Lists.{Each}
 use Rattle.model.specs.Answers.{refused, accepted}
 use Rattle.model.specs.Refusals.{noneToReceive}
-use Rattle.model.specs.Opening.{Opening, openingOf}
+use Rattle.model.specs.Opening.{Opening, builtInOpening}
 use Rattle.model.specs.Page.{Page, PageAnswer, shown}
 use Rattle.model.specs.Call.{Words, wordsOf, WordsIn}
 use Rattle.store.specs.Layout.{storedLength}
@@ -52,7 +52,7 @@ EachSort P (s ∷ ss) = P s × EachSort P ss
 
 -- the bytes of a slice in which a hall of two recorders was opened, and then these calls were made
 abbrev pub openedIn : List ℕ → List Words → List ℕ
-openedIn b ws = runOn (openOn b (openingOf 2 0) .bytes) ws
+openedIn b ws = runOn (openOn b (builtInOpening 2 0) .bytes) ws
 
 -- ## The sorts, in the words of 01, and after the colon what the definition does
 
