@@ -8,6 +8,7 @@ use lib.Dec.{eqb, leb}
 use lib.ListN.{length, getD, drop}
 use lib.Seq.{take-take}
 use borrow.Author.Tests.{eq-eqb, ne-eqb, le-leb, lt-leb}
+use Rattle.quorum.specs.Votes.{maxVote}
 use Rattle.model.specs.Hall.{maxSequence, maxEntries, maxBuffer, maxOrder, maxNumber, maxPending, maxQueue, maxRecorders, Payload}
 use Rattle.codec.specs.Bytes.{part, allZero}
 use Rattle.codec.specs.Form.{mapped, renamed, guarded}
@@ -20,7 +21,7 @@ use Rattle.codec.proofs.BytesLaws.{drop-part}
 use Rattle.codec.proofs.NumberLaws.{value-byte}
 use Rattle.store.specs.Layout.{entrySize, recorderSize, endpointSize, summarySize, viewSize, numberSize, wordSize, viewSetAt, payloadSize, entryPayloadAt, listSize, summaryOrderAt, sentSize, queuedMessageAt, queuedSize}
 use Rattle.store.specs.Cells.{EntryCell}
-use Rattle.store.specs.CellForms.{viewNumber, entryList, labelWhole, payloadForm, entryForm, summaryForm, sentForm, phaseForm, recorderForm, messageForm, endpointForm, queuedForm}
+use Rattle.store.specs.CellForms.{viewNumber, entryList, labelWhole, payloadForm, entryForm, summaryForm, sentForm, phaseForm, recorderForm, messageForm, endpointForm, queuedForm, voteForm}
 use Rattle.store.specs.Masks.{setForm}
 use Rattle.store.specs.ViewForm.{viewForm}
 use Rattle.ranges.specs.CellParts.{wholeLabel, recorderRest}
@@ -154,3 +155,11 @@ view-part n o b h k =
     pair-part (number numberSize 0 1 maxNumber) (setForm n) o b refl
     ∙ ap (λ (t : Bool). t && byte 1 (2 ^ n - 1) .valid (part (o + viewSetAt) 1 b))
     (ap (between 1 maxNumber) e ∙ ap (λ (t : Bool). leb 1 v && t) (le-leb v maxNumber (number-most o b (omega arith) k)) ∙ and-true (leb 1 v))
+
+-- a recorder's votes
+pub vote-part : (o : ℕ) (b : List ℕ) → voteForm .valid (part o wordSize b) ≡ leb (value (part o wordSize b)) maxVote
+unfolding voteForm number
+vote-part o b =
+    let v = value (part o wordSize b) in
+    let e : v + 0 ≡ v = omega arith in
+    ap (between 0 maxVote) e ∙ ap (λ (t : Bool). t && leb v maxVote) (le-leb 0 v (omega arith))

@@ -22,11 +22,11 @@ use Rattle.codec.specs.Bounded.{bounded}
 use Rattle.codec.specs.Table.{indexOf, table}
 use Rattle.codec.proofs.NumberLaws.{number-decode}
 use Rattle.codec.proofs.TableLaws.{index-lt, index-key}
-use Rattle.store.specs.Layout.{entryCells, networkAt, recordersAt, queuesAt, storedLength, numberSize, viewSize, entrySize, viewsAt, viewCells, entriesAt, viewsSize, entriesSize, recordersSize, networkSize, queuesSize, bodySize, restSize}
+use Rattle.store.specs.Layout.{entryCells, networkAt, recordersAt, queuesAt, votesAt, storedLength, numberSize, viewSize, entrySize, viewsAt, viewCells, entriesAt, viewsSize, entriesSize, recordersSize, networkSize, queuesSize, votesSize, bodySize, restSize}
 use Rattle.store.specs.Cells.{blankEntry}
-use Rattle.store.specs.CellForms.{entryForm, recorderForm, endpointForm, queueForm}
+use Rattle.store.specs.CellForms.{entryForm, recorderForm, endpointForm, queueForm, voteForm}
 use Rattle.store.specs.ViewForm.{Views, viewForm, numbersOf, numbersRise, viewList, viewsForm}
-use Rattle.store.specs.HallForm.{entriesForm, recordersForm, rowForm, networkForm, queuesForm, bodyForm, afterSize, fields, hallFields}
+use Rattle.store.specs.HallForm.{entriesForm, recordersForm, rowForm, networkForm, queuesForm, votesForm, bodyForm, afterSize, fields, hallFields}
 use Rattle.ranges.specs.TableParts.{viewNumbers, Found, tablesIn}
 use Rattle.ranges.proofs.Parts.{given-part, pair-part, given-value, byte-part}
 use Rattle.ranges.proofs.Loops.{cells-same, bounded-part, bounded-value}
@@ -164,13 +164,18 @@ pub entries-within : (n : ℕ) (b : List ℕ) → entriesAt < length b → getD 
 entries-within n b h l = entries-part n b h ∙ rw (le-leb (getD b entriesAt 0) maxEntries l)
 
 body-part : (n m : ℕ) (v : Views) (b : List ℕ) → length (v .0) ≡ m → bodyForm n v .valid (part entriesAt bodySize b) ≡ tablesIn n m b
-unfolding bodyForm recordersForm networkForm queuesForm rowForm table mapped tablesIn
+unfolding bodyForm recordersForm networkForm queuesForm rowForm votesForm table mapped tablesIn
 body-part n m v b e =
-    pair-part (entriesForm n) _ entriesAt b (pair-part (recordersForm n) _ recordersAt b (pair-part (networkForm n (v .0)) (queuesForm (v .0)) networkAt b refl))
+    pair-part (entriesForm n) _ entriesAt b
+    (pair-part (recordersForm n) _ recordersAt b
+    (pair-part (networkForm n (v .0)) _ networkAt b (pair-part (queuesForm (v .0)) (votesForm n) queuesAt b refl)))
     ∙ ap₂ (λ (k l : ℕ). entriesForm n .valid (part entriesAt entriesSize b)
     && (cells recorderForm k maxRecorders .valid (part recordersAt recordersSize b)
-    && (cells (rowForm (v .0)) k maxRecorders .valid (part networkAt networkSize b) && cells queueForm l maxViews .valid (part queuesAt queuesSize b)))) (length-numbers 1 n) e
-    ∙ ap (λ (t : Bool). entriesForm n .valid (part entriesAt entriesSize b) && (cells recorderForm n maxRecorders .valid (part recordersAt recordersSize b) && (t && cells queueForm m maxViews .valid (part queuesAt queuesSize b))))
+    && (cells (rowForm (v .0)) k maxRecorders .valid (part networkAt networkSize b)
+    && (cells queueForm l maxViews .valid (part queuesAt queuesSize b) && cells voteForm k maxRecorders .valid (part votesAt votesSize b))))) (length-numbers 1 n) e
+    ∙ ap (λ (t : Bool). entriesForm n .valid (part entriesAt entriesSize b)
+    && (cells recorderForm n maxRecorders .valid (part recordersAt recordersSize b)
+    && (t && (cells queueForm m maxViews .valid (part queuesAt queuesSize b) && cells voteForm n maxRecorders .valid (part votesAt votesSize b)))))
     (cells-same (rowForm (v .0)) (cells endpointForm m maxViews) (λ x. ap (λ (l : ℕ). cells endpointForm l maxViews .valid x) e) n maxRecorders (part networkAt networkSize b))
 
 -- ## The whole

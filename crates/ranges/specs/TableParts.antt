@@ -7,9 +7,9 @@ use Rattle.model.specs.Hall.{maxViews, maxRecorders}
 use Rattle.codec.specs.Bytes.{part}
 use Rattle.codec.specs.Number.{value}
 use Rattle.codec.specs.Cells.{cells}
-use Rattle.store.specs.Layout.{networkAt, recordersAt, queuesAt, numberSize, viewSize, viewCells, entriesAt}
-use Rattle.store.specs.Layout.{entriesSize, recordersSize, networkSize, queuesSize}
-use Rattle.store.specs.CellForms.{recorderForm, endpointForm, queueForm}
+use Rattle.store.specs.Layout.{networkAt, recordersAt, queuesAt, votesAt, numberSize, viewSize, viewCells, entriesAt}
+use Rattle.store.specs.Layout.{entriesSize, recordersSize, networkSize, queuesSize, votesSize}
+use Rattle.store.specs.CellForms.{recorderForm, endpointForm, queueForm, voteForm}
 use Rattle.store.specs.HallForm.{entriesForm}
 
 -- ## The formed views
@@ -31,10 +31,11 @@ pub record Found (m : ℕ) (b : List ℕ) (g i : ℕ) : Type 0 where
 
 -- ## The other tables
 
--- the entries, recorders, network and queues of n recorders and m views
+-- the entries, recorders, network, queues and votes of n recorders and m views
 unfoldable pub tablesIn : ℕ → ℕ → List ℕ → Bool
 tablesIn n m b =
     entriesForm n .valid (part entriesAt entriesSize b)
     && (cells recorderForm n maxRecorders .valid (part recordersAt recordersSize b)
     && (cells (cells endpointForm m maxViews) n maxRecorders .valid (part networkAt networkSize b)
-    && cells queueForm m maxViews .valid (part queuesAt queuesSize b)))
+    && (cells queueForm m maxViews .valid (part queuesAt queuesSize b)
+    && cells voteForm n maxRecorders .valid (part votesAt votesSize b))))

@@ -11,18 +11,19 @@ ghost use Rattle.codec.specs.Cells.{cells};
 ghost use Rattle.codec.specs.Table.{flags};
 ghost use Rattle.base.specs.Lists.{rising};
 ghost use Rattle.model.specs.Hall.{maxEntries, maxViews, maxQueue, maxRecorders};
-ghost use Rattle.store.specs.Layout.{viewsAt, viewCells, entriesAt, entryCells, recordersAt, networkAt, queuesAt};
-ghost use Rattle.store.specs.Layout.{storedLength, viewsSize, entriesSize, recordersSize, networkSize, queuesSize};
+ghost use Rattle.store.specs.Layout.{viewsAt, viewCells, entriesAt, entryCells, recordersAt, networkAt, queuesAt, votesAt};
+ghost use Rattle.store.specs.Layout.{storedLength, viewsSize, entriesSize, recordersSize, networkSize, queuesSize, votesSize};
 ghost use Rattle.store.specs.Layout.{viewSize, entrySize, recorderSize, endpointSize, rowSize, summarySize};
-ghost use Rattle.store.specs.Layout.{queueSize, numberSize, setsSize, sentSize, queuedSize, messagesSize};
+ghost use Rattle.store.specs.Layout.{queueSize, numberSize, wordSize, setsSize, sentSize, queuedSize, messagesSize};
 ghost use Rattle.store.specs.CellForms.{entryForm, summaryForm, sentForm, recorderForm};
-ghost use Rattle.store.specs.CellForms.{endpointForm, queuedForm, queueForm};
+ghost use Rattle.store.specs.CellForms.{endpointForm, queuedForm, queueForm, voteForm};
 ghost use Rattle.store.specs.ViewForm.{viewForm, viewsForm};
 ghost use Rattle.store.specs.HallForm.{entriesForm, hallFields};
 ghost use Rattle.ranges.specs.CellParts.{wholeLabel, recorderRest};
 ghost use Rattle.ranges.specs.TableParts.{viewNumbers, Found, tablesIn};
 use model::limits;
 use model::phases;
+use quorum::MAX_VOTE;
 use quorum::all_of;
 use store::layout;
 
@@ -268,7 +269,7 @@ fn valid_network(b: &[u8], n: usize, m: usize) -> bool
 
 // The queues of m views, and zeros.
 fn valid_queues(b: &[u8], m: usize) -> bool
-    requires { ⌜ (m ≤ maxViews) × (storedLength ≤ length (now b)) ⌝ }
+    requires { ⌜ (m ≤ maxViews) × (votesAt ≤ length (now b)) ⌝ }
     ensures { λ r. ⌜ r ≡ cells queueForm m maxViews .valid (part queuesAt queuesSize (now (b .entry))) ⌝ }
 {
     let mut i = 0;
@@ -278,7 +279,30 @@ fn valid_queues(b: &[u8], m: usize) -> bool
         }
         i += 1;
     }
-    codec::is_zero(b, layout::QUEUES + m * layout::QUEUE, layout::LENGTH)
+    codec::is_zero(b, layout::QUEUES + m * layout::QUEUE, layout::VOTES)
+}
+
+// A recorder's votes: "0 to 1,000 each" (02, A4).
+fn valid_vote(b: &[u8], at: usize) -> bool
+    requires { ⌜ at + wordSize ≤ length (now b) ⌝ }
+    ensures { λ r. ⌜ r ≡ voteForm .valid (part at wordSize (now (b .entry))) ⌝ }
+{
+    codec::get_u32(b, at) <= MAX_VOTE
+}
+
+// The votes of n recorders, and zeros.
+fn valid_votes(b: &[u8], n: usize) -> bool
+    requires { ⌜ (n ≤ maxRecorders) × (storedLength ≤ length (now b)) ⌝ }
+    ensures { λ r. ⌜ r ≡ cells voteForm n maxRecorders .valid (part votesAt votesSize (now (b .entry))) ⌝ }
+{
+    let mut i = 0;
+    while i < n {
+        if !valid_vote(b, layout::VOTES + i * layout::WORD) {
+            return false;
+        }
+        i += 1;
+    }
+    codec::is_zero(b, layout::VOTES + n * layout::WORD, layout::LENGTH)
 }
 
 // A view's number, 1 on, and set, "not empty and within N".
@@ -351,13 +375,17 @@ fn valid_views(b: &[u8], n: u8) -> bool
     valid_view_cells(b, m, n) & views_rise(b, m)
 }
 
-// The entries, recorders, endpoints and queues of n recorders and m views.
+// The entries, recorders, endpoints, queues and votes of n recorders and m views.
 fn valid_tables(b: &[u8], n: u8, m: usize) -> bool
     requires { ⌜ (n ≤ maxRecorders) × (m ≤ maxViews) × (storedLength ≤ length (now b)) ⌝ }
     ensures { λ r. ⌜ r ≡ tablesIn n m (now (b .entry)) ⌝ }
 {
     let k = n as usize;
-    valid_entries(b, n) & valid_recorders(b, k) & valid_network(b, k, m) & valid_queues(b, m)
+    valid_entries(b, n)
+        & valid_recorders(b, k)
+        & valid_network(b, k, m)
+        & valid_queues(b, m)
+        & valid_votes(b, k)
 }
 
 // Is each field in its range, in the first bytes of a slice?

@@ -7,7 +7,7 @@ use mathlib.Core.Path.{sym, _∙_}
 use borrow.Author.Tests.{not-true, not-false}
 use Rattle.model.specs.Hall.{maxViews}
 use Rattle.store.specs.CellForms.{queueForm}
-use Rattle.store.specs.Layout.{queuesAt, storedLength}
+use Rattle.store.specs.Layout.{queuesAt, votesAt}
 use Rattle.ranges.proofs.Loops.{Left, left-start, left-next, cells-fail, cells-done}
 use Rattle.ranges.proofs.valid_queues.Statement.{statement}
 use Rattle.ranges.proofs.valid_queues.Tie as tie
@@ -36,7 +36,7 @@ returns : tie.Need-returns Inv-loop μ-loop
 returns c =
     let a = c .before .before .before .before .before .args in
     sym
-    (cells-fail queueForm queuesAt (a .m) (now (a .b)) maxViews storedLength (search needs) (omega arith) (c .before .before .before .loop .i) (c .before .before .loop-test .taken)
+    (cells-fail queueForm queuesAt (a .m) (now (a .b)) maxViews votesAt (search needs) (omega arith) (c .before .before .before .loop .i) (c .before .before .loop-test .taken)
     (sym (c .before .valid-queue .ensures) ∙ not-true (c .before .valid-queue .result) (c .if1 .taken)) (c .before .before .before .loop .inv .1))
 
 add-i : tie.Need-add-i Inv-loop μ-loop
@@ -66,7 +66,7 @@ returns-2 : tie.Need-returns-2 Inv-loop μ-loop
 returns-2 c =
     let a = c .before .before .before .before .args in
     c .is-zero .ensures
-    ∙ sym (cells-done queueForm queuesAt (a .m) (now (a .b)) maxViews storedLength (search needs) (omega arith) (c .before .before .loop .i) (c .before .loop-test .left) (c .before .before .loop .inv .1))
+    ∙ sym (cells-done queueForm queuesAt (a .m) (now (a .b)) maxViews votesAt (search needs) (omega arith) (c .before .before .loop .i) (c .before .loop-test .left) (c .before .before .loop .inv .1))
 
 pub valid-queues-spec : {M : Type 1} → statement M
 valid-queues-spec =
