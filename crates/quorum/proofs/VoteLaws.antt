@@ -177,7 +177,7 @@ pub listed-row : (f : ℕ → ℕ) (m k : ℕ) → 1 ≤ k → k ≤ m → rowOf
 listed-row f m k low high = row-at (map f (upTo m)) k low ∙ get-upTo f m k 0 low high
 
 -- a row's total is at least each recorder's votes
-total-at : (row : ℕ → ℕ) (n k : ℕ) → 1 ≤ k → k ≤ n → row k ≤ total row n
+pub total-at : (row : ℕ → ℕ) (n k : ℕ) → 1 ≤ k → k ≤ n → row k ≤ total row n
 unfolding total votes
 total-at row zero k low high = absurd (omega arith)
 total-at row (suc n) k low high =

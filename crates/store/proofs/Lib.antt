@@ -18,3 +18,4 @@ pub mod KeepMoves
 pub mod KeepFacts
 pub mod KeepParts
 pub mod CellFormsLaws
+pub mod VoteRows

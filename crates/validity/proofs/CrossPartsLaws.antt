@@ -29,7 +29,7 @@ use Rattle.codec.proofs.BytesLaws.{part-cons}
 use Rattle.codec.proofs.CellsLaws.{length-decodeAll}
 use Rattle.codec.proofs.ByteListLaws.{decode-list, valid-list-count}
 use Rattle.store.specs.Layout.{entryCells, entrySize, recordersAt, recorderSize, queuesAt, queueSize, numberSize, payloadSize, entryPayloadAt, entryLabelAt, entrySequenceAt, listSize, recorderBufferAt, recorderOrderAt, recorderKnownAt, recorderSafeAt, recorderHeardAt, recorderSafeSourcesAt, summaryOrderAt, endpointSummaryAt}
-use Rattle.store.specs.Valid.{labelsApart, labelledEntry, listNames, setNames, messageNames, messagesName, queueNames, summaryNames, recorderCross, endpointCross, crossRules}
+use Rattle.store.specs.Valid.{someVotes, labelsApart, labelledEntry, listNames, setNames, messageNames, messagesName, queueNames, summaryNames, recorderCross, endpointCross, crossRules}
 use Rattle.store.specs.Cells.{EntryCell, RecorderCell, entryAt, recorderAt}
 use Rattle.store.specs.CellForms.{messageForm, queuedForm, recorderForm}
 use Rattle.store.specs.HallForm.{hallFields}
@@ -385,9 +385,11 @@ module _ (b : List ℕ) (K : Held hallFields b) (l : List ℕ) (M : Labels (raw 
 -- ## The whole
 
 pub cross-parts : (b : List ℕ) → Held hallFields b → crossRules (raw b)
-    ≡ labelsApart (raw b .entries)
-    && (all (recorderCross (raw b)) (upTo (sizeAt b)) && all (viewCross (raw b)) (viewNumbers (viewCount b) 2 b))
+    ≡ someVotes (raw b)
+    && (labelsApart (raw b .entries)
+    && (all (recorderCross (raw b)) (upTo (sizeAt b)) && all (viewCross (raw b)) (viewNumbers (viewCount b) 2 b)))
 unfolding crossRules
 cross-parts b K =
-    ap₂ (λ (n : ℕ) (xs : List ℕ). labelsApart (raw b .entries) && (all (recorderCross (raw b)) (upTo n) && all (viewCross (raw b)) xs))
+    ap₂ (λ (n : ℕ) (xs : List ℕ). someVotes (raw b)
+    && (labelsApart (raw b .entries) && (all (recorderCross (raw b)) (upTo n) && all (viewCross (raw b)) xs)))
     (raw-size b K) (raw-created b K)

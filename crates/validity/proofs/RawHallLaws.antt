@@ -2,38 +2,45 @@
 use Prim.Native.Nat.{ℕ, _+_, _-_, _*_, _/_, _%_, _^_, _≤_, _<_}
 use native.Mathlib.Omega.{arith}
 use native.Mathlib.Nat.{div-eq-of-lt}
-use mathlib.Core.Path.{_≡_, sym, ap, subst, _∙_}
-use mathlib.Core.Bool.{true, false, _&&_, and-false}
+use mathlib.Core.Path.{_≡_, refl, sym, ap, subst, _∙_, fun-ext}
+use mathlib.Core.Logic.{⊎-elim}
+use mathlib.Core.Bool.{true, false, not, _&&_, and-false}
 use mathlib.Core.List.{List}
 use lib.Dec.{eqb, ltb}
 use lib.Pow.{pow-pos}
-use lib.ListN.{length, getD}
-use borrow.Author.Tests.{ltb-true, ltb-false, lt-ltb, le-ltb}
+use lib.ListN.{length, getD, length-take, length-drop}
+use borrow.Author.Tests.{eqb-true, eqb-false, ltb-true, ltb-false, lt-ltb, le-ltb}
 use Rattle.base.specs.Numbers.{numbers, upTo}
 use Rattle.base.specs.Lists.{has}
-use Rattle.base.proofs.Bools.{by-cases}
+use Rattle.base.proofs.Bools.{by-cases, not-both}
 use Rattle.base.proofs.ListsLaws.{has-filter, key-has}
 use Rattle.quorum.specs.Sets.{members, inMask}
+use Rattle.quorum.specs.Votes.{total}
+use Rattle.quorum.proofs.VoteLaws.{total-at, total-none}
 use Rattle.model.specs.Hall.{maxEntries, maxRecorders, maxViews}
-use Rattle.codec.specs.Bytes.{part}
+use Rattle.codec.specs.Bytes.{part, zeros, allZero}
 use Rattle.codec.specs.Form.{mapped, renamed}
-use Rattle.codec.specs.Number.{value, byte}
+use Rattle.codec.specs.Number.{value, number, byte}
 use Rattle.codec.specs.Pair.{pair}
 use Rattle.codec.specs.Slice.{Held, valueOf}
 use Rattle.codec.specs.Table.{indexOf, table}
-use Rattle.codec.proofs.SliceLaws.{value-ok, slice-value}
-use Rattle.codec.proofs.TableLaws.{key-index}
-use Rattle.store.specs.Layout.{storedLength, entryCells, entrySize, numberSize, wordSize, viewSetAt, viewSize, payloadSize, entryPayloadAt, viewsAt, viewCells, entriesAt, viewsSize}
-use Rattle.store.specs.Valid.{InRange}
+use Rattle.codec.proofs.BytesLaws.{allZero-eq, allZero-replicate}
+use Rattle.codec.proofs.Blank.{blank-decode}
+use Rattle.codec.proofs.SliceLaws.{value-ok, slice-value, slice-bytes}
+use Rattle.codec.proofs.TableLaws.{key-index, all-keys}
+use Rattle.store.specs.Layout.{storedLength, entryCells, entrySize, numberSize, wordSize, viewSetAt, viewSize, payloadSize, entryPayloadAt, viewsAt, viewCells, entriesAt, viewsSize, votesAt, votesSize}
+use Rattle.store.specs.Valid.{VotesIn, InRange, someVotes}
 use Rattle.store.specs.Cells.{blankEntry, entryAt}
-use Rattle.store.specs.CellForms.{entryForm}
+use Rattle.store.specs.CellForms.{entryForm, voteForm}
 use Rattle.store.specs.ViewForm.{viewsForm}
-use Rattle.store.specs.HallForm.{entriesForm, recordersForm, networkForm, queuesForm, bodyForm, afterSize, fields, hallFields}
+use Rattle.store.specs.HallForm.{entriesForm, recordersForm, networkForm, queuesForm, votesForm, bodyForm, afterSize, fields, hallFields}
 use Rattle.store.proofs.CellFormsLaws.{entry-lawful}
 use Rattle.store.proofs.ViewFormLaws.{view-lawful, rising-distinct}
-use Rattle.store.proofs.HallFormLaws.{hallFields-lawful}
+use Rattle.store.proofs.HallFormLaws.{votes-lawful, hallFields-lawful}
 use Rattle.store.proofs.HallOk.{fields-ok}
-use Rattle.store.proofs.Pieces.{entry-piece}
+use Rattle.store.proofs.Pieces.{entry-piece, votes-view}
+use Rattle.store.proofs.KeepFacts.{inside?}
+use Rattle.store.proofs.VoteRows.{votes-zeros}
 use Rattle.store.proofs.ViewPieces.{view-view}
 use Rattle.ranges.specs.TableParts.{viewNumbers, viewAt, Found}
 use Rattle.ranges.proofs.Parts.{given-value, byte-in}
@@ -94,7 +101,7 @@ module _ (b : List ℕ) (K : Held hallFields b) where
       let v = viewsForm d .decode (part viewsAt viewsSize b) in
       ap (λ t. t .1 .1 .0 .0) (given-value (byte 1 maxRecorders) afterSize 0 b)
       ∙ ap (λ t. t .1 .0 .0) (given-value (viewsForm d) (bodyForm d) 1 b)
-      ∙ ap (λ t. t .0 .0) (given-value (entriesForm d) (λ a. pair (recordersForm d) (pair (networkForm d (v .0)) (queuesForm (v .0)))) entriesAt b)
+      ∙ ap (λ t. t .0 .0) (given-value (entriesForm d) (λ a. pair (recordersForm d) (pair (networkForm d (v .0)) (pair (queuesForm (v .0)) (votesForm d)))) entriesAt b)
       ∙ ap (λ t. t .0) (given-value (byte 0 maxEntries) (λ m. table (entryForm d) (numbers 1 m) maxEntries blankEntry) entriesAt b)
       ∙ byte-value 0 maxEntries entriesAt b (omega (arith, long))
 
@@ -161,6 +168,55 @@ module _ (b : List ℕ) (K : Held hallFields b) where
           ap (λ (xs : List ℕ). has xs q) (in-range .views .blank g (ap (λ (xs : List ℕ). has xs g) raw-created ∙ found-none (viewCount b) b g i f l))
           ∙ sym (no-members (sizeAt b) q)
           ∙ ap (λ (z : ℕ). has (members (sizeAt b) z) q) (sym (set-out b i l))
+
+-- the votes: their bytes are zeros just if no recorder has votes
+module _ (b : List ℕ) (K : Held hallFields b) where
+  abbrev n : ℕ
+  n = raw b .size
+
+  size-most : n ≤ maxRecorders
+  size-most = in-range b K .size .1
+
+  none-ok : votesForm n .ok (λ r. 0)
+  unfolding votesForm table mapped voteForm number
+  none-ok =
+      record {
+        inside = all-keys (voteForm .ok) (λ r. 0) (numbers 1 n) (λ j k. (omega arith, omega arith));
+        outside = λ j k. refl;
+      }
+
+  zeros-none : allZero (part votesAt votesSize b) ≡ true → raw b .votes ≡ (λ r. 0)
+  zeros-none t =
+      let L = votes-lawful n size-most in
+      let fits : length (part votesAt votesSize b) ≡ votesSize = simp (length-take, length-drop) (omega (arith, K .long)) in
+      sym (slice-value hallFields-lawful L b K refl (votes-view n))
+      ∙ ap (votesForm n .decode) (allZero-eq (part votesAt votesSize b) t ∙ ap zeros fits)
+      ∙ blank-decode L (λ r. 0) none-ok (votes-zeros n size-most)
+
+  none-zeros : total (raw b .votes) n ≡ 0 → allZero (part votesAt votesSize b) ≡ true
+  none-zeros z =
+      ap allZero
+      (slice-bytes hallFields-lawful (votes-lawful n size-most) b K refl (votes-view n)
+      ∙ ap (votesForm n .encode) (fun-ext none)
+      ∙ votes-zeros n size-most)
+      ∙ allZero-replicate votesSize
+    where
+      none : (r : ℕ) → raw b .votes r ≡ 0
+      none r =
+          ⊎-elim (λ i. omega (arith, total-at (raw b .votes) n r (i .0) (i .1))) (in-range b K .votes .blank r) (inside? n r)
+
+  pub some-votes : not (allZero (part votesAt votesSize b)) ≡ someVotes (raw b)
+  unfolding someVotes
+  some-votes =
+      by-cases (allZero (part votesAt votesSize b))
+      (λ t. ap not t ∙ sym (ap (ltb 0) (ap (λ (f : ℕ → ℕ). total f n) (zeros-none t) ∙ total-none (λ r. 0) n (λ r. refl))))
+      (λ f. ap not f ∙ sym (lt-ltb 0 (total (raw b .votes) n) (positive f)))
+    where
+      positive : allZero (part votesAt votesSize b) ≡ false → 0 < total (raw b .votes) n
+      positive f =
+          by-cases (eqb (total (raw b .votes) n) 0)
+          (λ t. absurd (not-both (none-zeros (eqb-true (total (raw b .votes) n) 0 t)) f))
+          (λ g. omega (arith, eqb-false (total (raw b .votes) n) 0 g))
 
 pub ranged : (b : List ℕ) → Held hallFields b → Ranged b
 ranged b K = record { held = K; fits = long b K; size = size-in b K .1; views = views-in b K; entries = count-in b K }

@@ -10,7 +10,7 @@ ghost use Rattle.base.specs.Lists.{has, all};
 ghost use Rattle.quorum.specs.Sets.{members};
 ghost use Rattle.base.specs.Numbers.{upTo};
 ghost use Rattle.model.specs.Hall.{maxEntries, maxViews, maxRecorders};
-ghost use Rattle.store.specs.Valid.{recorderCross, endpointCross, crossRules};
+ghost use Rattle.store.specs.Valid.{someVotes, recorderCross, endpointCross, crossRules};
 ghost use Rattle.store.specs.StoredForm.{isStored};
 ghost use Rattle.store.specs.Layout.{queuedSize, viewCells, entriesAt, storedLength};
 ghost use Rattle.ranges.specs.TableParts.{viewNumbers, viewAt};
@@ -381,6 +381,14 @@ fn recorders_cross(b: &[u8], unnamed: &[u8; MESSAGES], n: usize) -> bool
     true
 }
 
+// Not "a row whose votes are all 0" (02, A4): a byte of the votes is not 0.
+fn has_votes(b: &[u8]) -> bool
+    requires { ⌜ Ranged (now b) ⌝ }
+    ensures { λ r. ⌜ r ≡ someVotes (raw (now (b .entry))) ⌝ }
+{
+    !codec::is_zero(b, layout::VOTES, layout::LENGTH)
+}
+
 // All cross rules, of bytes with each field in its range.
 fn cross_rules(b: &[u8]) -> bool
     requires { ⌜ Ranged (now b) ⌝ }
@@ -390,7 +398,10 @@ fn cross_rules(b: &[u8]) -> bool
     let n = b[0] as usize;
     let m = b[layout::VIEW_COUNT] as usize;
     let count = b[layout::ENTRY_COUNT] as usize;
-    labels_alone(b, count) & recorders_cross(b, &unnamed, n) & views_cross(b, &unnamed, m)
+    has_votes(b)
+        & labels_alone(b, count)
+        & recorders_cross(b, &unnamed, n)
+        & views_cross(b, &unnamed, m)
 }
 
 // Are the first bytes of a slice a hall's stored form? (31.) Only these are read, and a shorter slice is none.

@@ -1,4 +1,4 @@
--- Labels, recorders and views. Assumes nothing.
+-- Votes, labels, recorders and views. Assumes nothing.
 use denote.Ref.{now}
 use mathlib.Core.Path.{sym, ap₂, _∙_}
 use mathlib.Core.Bool.{_&&_, and-assoc}
@@ -28,6 +28,9 @@ shared-slice-read-count c = search needs
 cast-count : tie.Need-cast-count
 cast-count c = search needs
 
+has-votes-requires : tie.Need-has-votes-requires
+has-votes-requires c κs = search needs
+
 labels-alone-requires : tie.Need-labels-alone-requires
 labels-alone-requires c κs = search needs
 
@@ -39,10 +42,11 @@ views-cross-requires c κs = search needs
 
 returns : tie.Need-returns
 returns c =
-    let b = now (c .before .before .before .before .before .before .before .before .before .before .args .b) in
-    let K = c .before .before .before .before .before .before .before .before .before .before .pre .held in
+    let b = now (c .before .before .before .before .before .before .before .before .before .before .before .args .b) in
+    let K = c .before .before .before .before .before .before .before .before .before .before .before .pre .held in
     simp and-assoc
-    (ap₂ _&&_ (c .before .before .before .before .labels-alone .ensures ∙ sym (labels-apart b K)) (ap₂ _&&_ (c .before .before .recorders-cross .ensures) (c .views-cross .ensures))
+    (ap₂ _&&_ (c .before .before .before .before .before .has-votes .ensures)
+    (ap₂ _&&_ (c .before .before .before .before .labels-alone .ensures ∙ sym (labels-apart b K)) (ap₂ _&&_ (c .before .before .recorders-cross .ensures) (c .views-cross .ensures)))
     ∙ sym (cross-parts b K))
 
 pub cross-rules-spec : {M : Type 1} → statement M
@@ -56,6 +60,7 @@ cross-rules-spec =
     cast-m
     shared-slice-read-count
     cast-count
+    has-votes-requires
     labels-alone-requires
     recorders-cross-requires
     views-cross-requires
