@@ -161,8 +161,9 @@ small-vote row small k =
     (λ t. omega (arith, ap (rowOf row) (eqb-true k 0 t) ∙ row-none row))
     (λ f. omega (arith, row-at row k (omega (arith, eqb-false k 0 f)), leb-true (getD row (k - 1) 0) maxVote (all-get (λ v. leb v maxVote) refl row (k - 1) small)))
 
-pub small-share : (row : List ℕ) → smallRow row ≡ true → (t : Bool) (k : ℕ) → share t (rowOf row k) ≤ maxVote
-small-share row small t k = omega (arith, share-most t (rowOf row k), small-vote row small k)
+-- what a recorder with few votes adds
+pub small-share : (v : ℕ) → v ≤ maxVote → (t : Bool) → share t v ≤ maxVote
+small-share v small t = omega (arith, share-most t v)
 
 -- 255 is the mask of all
 pub votes-all : (row : ℕ → ℕ) (n : ℕ) → n ≤ 8 → votes row n (inMask 255) ≡ total row n

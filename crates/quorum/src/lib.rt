@@ -3,12 +3,12 @@
 
 ghost use mathlib.Core.Path.{_≡_};
 ghost use mathlib.Core.Bool.{true};
-ghost use Prim.Native.Nat.{_-_, _^_, _≤_};
+ghost use Prim.Native.Nat.{ℕ, _-_, _^_, _≤_};
 ghost use lib.Dec.{leb};
 ghost use lib.ListN.{drop};
 ghost use Rattle.quorum.specs.Sets.{inMask};
 ghost use Rattle.quorum.specs.Votes.{votes, margin, share, builtIn, rowOf};
-ghost use Rattle.quorum.specs.Votes.{builtInRow, smallRow, noVotes, wrongRow};
+ghost use Rattle.quorum.specs.Votes.{builtInRow, maxVote, smallRow, noVotes, wrongRow};
 
 // "0 to 1,000 each" (02, A4).
 pub const MAX_VOTE: u32 = 1000;
@@ -47,7 +47,7 @@ fn vote(row: &[u32; 8], k: u32, set: u32) -> u32
 
 // The votes of recorders 1 to n that are in the set.
 fn votes(row: &[u32; 8], n: u32, set: u32) -> u32
-    requires { ⌜ (n ≤ 8) × (smallRow (now row) ≡ true) ⌝ }
+    requires { ⌜ (n ≤ 8) × ((k : ℕ) → rowOf (now row) k ≤ maxVote) ⌝ }
     ensures { λ r. ⌜ r ≡ votes (rowOf (now (row .entry))) n (inMask set) ⌝ }
     ensures small { λ r. ⌜ r ≤ 8000 ⌝ }
 {
@@ -62,7 +62,7 @@ fn votes(row: &[u32; 8], n: u32, set: u32) -> u32
 
 // The margin of a set: "twice the set's votes less the votes of the whole hall" (02, A1), recorders 1 to n.
 pub fn margin(row: &[u32; 8], n: u32, set: u32) -> i32
-    requires { ⌜ (n ≤ 8) × (smallRow (now row) ≡ true) ⌝ }
+    requires { ⌜ (n ≤ 8) × ((k : ℕ) → rowOf (now row) k ≤ maxVote) ⌝ }
     ensures { λ m. ⌜ m ≡ margin (rowOf (now (row .entry))) n (inMask set) ⌝ }
 {
     (2 * votes(row, n, set)) as i32 - votes(row, n, ALL) as i32

@@ -19,3 +19,4 @@ pub mod KeepFacts
 pub mod KeepParts
 pub mod CellFormsLaws
 pub mod VoteRows
+pub mod VotePieces

@@ -1,5 +1,5 @@
--- The votes in the stored form: no votes are zero bytes; a stored row is one that 41 would take, and each such row can be
--- stored (02, A4). Assumes nothing.
+-- The votes in the stored form: no votes are zero bytes; votes are in their ranges, and not none, just if 41 would take the row
+-- (02, A4). Assumes nothing.
 use Prim.Native.Nat.{ℕ, _≤_, _<_}
 use native.Mathlib.Omega.{arith}
 use mathlib.Core.Path.{_≡_, refl, sym, ap, _∙_}
@@ -23,22 +23,30 @@ use Rattle.store.specs.CellForms.{voteForm}
 use Rattle.store.specs.HallForm.{votesForm}
 use Rattle.store.proofs.KeepFacts.{inside?}
 
+pub vote-zeros : Blank voteForm 0
+unfolding voteForm
+vote-zeros = blank-number wordSize 0 0 maxVote
+
 -- no votes are zero bytes
 pub votes-zeros : (n : ℕ) → n ≤ maxRecorders → Blank (votesForm n) (λ r. 0)
-unfolding votesForm table mapped voteForm
+unfolding votesForm table mapped
 votes-zeros n h =
     let xs : List ℕ = map (λ r. 0) (numbers 1 n) in
     let e : length xs ≡ length (numbers 1 n) = length-map (numbers 1 n) (λ r. 0) in
     ap (λ (m : ℕ). cells voteForm m maxRecorders .encode xs) (sym e)
     ∙ blank-cells voteForm maxRecorders xs (omega (arith, length-numbers 1 n))
-    (all-keys (Blank voteForm) (λ r. 0) (numbers 1 n) (λ j k. blank-number wordSize 0 0 maxVote))
+    (all-keys (Blank voteForm) (λ r. 0) (numbers 1 n) (λ j k. vote-zeros))
 
 -- votes that are in their ranges, and not none, are right
 module _ (n : ℕ) (votes : ℕ → ℕ) where
+  -- each of them is small, also where no recorder is
+  pub votes-small : VotesIn n votes → (r : ℕ) → votes r ≤ maxVote
+  votes-small w r = ⊎-elim (λ b. w .atMost r (b .0) (b .1)) (λ o. omega (arith, w .blank r o)) (inside? n r)
+
   pub right-votes : VotesIn n votes → 0 < total votes n → Right n votes
   right-votes w some =
       record {
-        small = λ r. ⊎-elim (λ b. w .atMost r (b .0) (b .1)) (λ o. omega (arith, w .blank r o)) (inside? n r);
+        small = votes-small w;
         none = w .blank 0 (inl refl);
         noneAbove = λ r o. w .blank r (inr o);
         some = some;

@@ -19,7 +19,7 @@ abbrev μ-loop : tie.MeasureT-loop
 
 -- what a recorder adds is at most 1,000
 small : (c : tie.After-vote Inv-loop μ-loop) → c .vote .result ≤ maxVote
-small c = subst (λ v. v ≤ maxVote) (sym (c .vote .ensures)) (small-share _ (c .before .before .before .pre .1) _ _)
+small c = subst (λ v. v ≤ maxVote) (sym (c .vote .ensures)) (small-share _ (c .before .before .before .pre .1 _) _)
 
 loop-holds : tie.Need-loop-holds Inv-loop μ-loop
 unfolding votes
