@@ -6,7 +6,7 @@ use native.Mathlib.Omega.{arith}
 use mathlib.Core.Bool.{Bool, true, false, not, _&&_, _||_}
 use mathlib.Core.Logic.{_⊎_, inl, inr, ⊎-elim}
 use mathlib.Core.Path.{_≡_, refl, sym, ap, ap₂, _∙_}
-use mathlib.Core.List.{List, map}
+use mathlib.Core.List.{List, [], _∷_, map}
 use borrow.Author.Tests.{ltb-true, leb-true, leb-false, eqb-true, eqb-false, ne-eqb, eq-eqb, le-leb, not-true, not-false}
 use lib.Dec.{eqb, leb, ltb}
 use lib.IntN.{pos, negℤ, subℕ}
@@ -15,12 +15,13 @@ use lib.Seq.{getD-drop}
 use lib.Signed.{_≤ℤ_}
 use mir.Syntax.{w32}
 use mir.Val.{SFits}
-use Rattle.base.specs.Numbers.{upTo}
+use Rattle.base.specs.Numbers.{upTo, numbers}
 use Rattle.base.specs.Lists.{filter, has, all}
 use Rattle.base.proofs.Bools.{by-cases, not-both, or-none, and-both, and-true}
 use Rattle.base.proofs.Integers.{sub-sign, sub-range, sub-fits}
 use Rattle.base.proofs.ListsLaws.{all-get, get-all}
-use Rattle.base.proofs.NumbersLaws.{all-upTo, get-upTo}
+use Rattle.base.proofs.Filters.{map-same}
+use Rattle.base.proofs.NumbersLaws.{all-upTo, get-upTo, upTo-numbers, numbers-range}
 use Rattle.quorum.specs.Sets.{inMask, members}
 use Rattle.quorum.specs.Votes.{votes, total, margin, quorum, share, builtIn, rowOf, maxVote, smallRow, noVotes, builtInRow, wrongRow}
 use Rattle.quorum.proofs.SetLaws.{has-members}
@@ -176,6 +177,26 @@ votes-all row n h =
 -- a row written as the list of what a function gives
 pub listed-row : (f : ℕ → ℕ) (m k : ℕ) → 1 ≤ k → k ≤ m → rowOf (map f (upTo m)) k ≡ f k
 listed-row f m k low high = row-at (map f (upTo m)) k low ∙ get-upTo f m k 0 low high
+
+-- and a row is the list of what it gives
+listed-from : (s : ℕ) (xs : List ℕ) → map (λ k. getD xs (k - s) 0) (numbers s (length xs)) ≡ xs
+unfolding numbers
+listed-from s [] = refl
+listed-from s (x ∷ xs) =
+    let z : s - s ≡ 0 = omega arith in
+    ap₂ _∷_ (ap (λ (i : ℕ). getD (x ∷ xs) i 0) z)
+    (map-same (λ k. getD (x ∷ xs) (k - s) 0) (λ k. getD xs (k - suc s) 0) (numbers (suc s) (length xs)) later ∙ listed-from (suc s) xs)
+  where
+    later : (k : ℕ) → has (numbers (suc s) (length xs)) k ≡ true → getD (x ∷ xs) (k - s) 0 ≡ getD xs (k - suc s) 0
+    later k h =
+        let e : k - s ≡ suc (k - suc s) = omega (arith, numbers-range (suc s) (length xs) k h .0) in
+        ap (λ (i : ℕ). getD (x ∷ xs) i 0) e
+
+pub row-listed : (row : List ℕ) → map (rowOf row) (upTo (length row)) ≡ row
+row-listed row =
+    ap (map (rowOf row)) (upTo-numbers (length row))
+    ∙ map-same (rowOf row) (λ k. getD row (k - 1) 0) (numbers 1 (length row)) (λ k h. row-at row k (numbers-range 1 (length row) k h .0))
+    ∙ listed-from 1 row
 
 -- a row's total is at least each recorder's votes
 pub total-at : (row : ℕ → ℕ) (n k : ℕ) → 1 ≤ k → k ≤ n → row k ≤ total row n

@@ -33,7 +33,7 @@ use Rattle.store.proofs.KeepRules.{facts-of}
 use Rattle.store.proofs.KeepFacts.{Facts}
 
 -- cells of recorders above n are blank, so the form of more recorders has the same bytes
-wide : (votes : ℕ → ℕ) (n m : ℕ) → n + m ≤ maxRecorders → ((r : ℕ) → n < r → votes r ≡ 0)
+pub wide : (votes : ℕ → ℕ) (n m : ℕ) → n + m ≤ maxRecorders → ((r : ℕ) → n < r → votes r ≡ 0)
     → votesForm n .encode votes ≡ votesForm (n + m) .encode votes
 unfolding votesForm
 wide votes n zero h z =

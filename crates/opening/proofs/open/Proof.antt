@@ -3,33 +3,27 @@ use denote.Ref.{now}
 use Prim.Native.Nat.{ℕ}
 use mathlib.Core.Path.{_≡_, refl}
 use borrow.Author.Needs.{needs}
-use Rattle.model.specs.Opening.{openingOf}
 use Rattle.opening.specs.Opened.{founderMask, Taken}
 use Rattle.opening.proofs.Openings.{leaves-refused, allowed, leaves-opened}
 use Rattle.opening.proofs.open.Statement.{statement}
 use Rattle.opening.proofs.open.Tie as tie
 
-wrong-opening-requires : tie.Need-wrong-opening-requires
-wrong-opening-requires c κs = search needs
+opening-refusal-requires : tie.Need-opening-refusal-requires
+opening-refusal-requires c κs = search needs
 
 refusal-requires : tie.Need-refusal-requires
 refusal-requires c κs = search needs
-
-refusal-requires-2 : tie.Need-refusal-requires-2
-refusal-requires-2 c κs = search needs
 
 first-requires : tie.Need-first-requires
 first-requires c κs = search needs
 
 returns : tie.Need-returns
-returns c =
-    leaves-refused _ _ _ _ _ _ _ (c .before .before .before .before .wrong-opening .ensures) (c .before .before .before .refusal .ensures) (c .before .before .refusal2 .ensures) (c .before .first .ensures) (c .if1 .taken)
+returns c = leaves-refused _ _ _ _ _ _ _ (c .before .before .before .opening-refusal .ensures) (c .before .before .refusal .ensures) (c .before .first .ensures) (c .if1 .taken)
 
--- neither 16 nor 18
-passed : (c : tie.Else1) (m : ℕ) → m ≡ founderMask (openingOf (c .before .before .before .before .before .before .args .n) (c .before .before .before .before .before .before .args .founders))
-    → Taken (c .before .before .before .before .before .before .args .n) m (now (c .before .before .before .before .before .before .args .b))
-passed c m e =
-    allowed _ _ _ _ _ _ _ (c .before .before .before .before .wrong-opening .ensures) (c .before .before .before .refusal .ensures) (c .before .before .refusal2 .ensures) (c .before .first .ensures) (c .if1 .left) m e
+-- none of 16, 41 and 18
+passed : (c : tie.Else1) (m : ℕ) → m ≡ founderMask (c .before .before .before .before .before .args .n) (c .before .before .before .before .before .args .founders)
+    → Taken (c .before .before .before .before .before .args .n) (c .before .before .before .before .before .args .votes) m (now (c .before .before .before .before .before .args .b))
+passed c m e = allowed _ _ _ _ _ _ _ (c .before .before .before .opening-refusal .ensures) (c .before .before .refusal .ensures) (c .before .first .ensures) (c .if1 .left) m e
 
 founder-mask-requires : tie.Need-founder-mask-requires
 founder-mask-requires c κs = passed c _ refl .size .1
@@ -40,7 +34,7 @@ begin-requires c κs = passed (c .before .before) _ (c .before .founder-mask .en
 start-all-requires : tie.Need-start-all-requires
 start-all-requires c κs =
     let t = passed (c .before .before .before .before .before .before) _ (c .before .before .before .before .before .founder-mask .ensures) in
-    record { size = t .size; founders = t .founders; long = rw (c .before .before .before .begin .kept .0) (t .long) }
+    (t .size .1, rw (c .before .before .before .begin .kept .0) (t .long))
 
 same-length : tie.Need-same-length
 same-length c = search needs
@@ -48,16 +42,17 @@ same-length c = search needs
 returns-2 : tie.Need-returns-2
 returns-2 c =
     let d = c .before .before .before .before .before .before .before .before .before in
-    leaves-opened _ _ _ _ _ _ _ (d .before .before .before .before .wrong-opening .ensures) (d .before .before .before .refusal .ensures) (d .before .before .refusal2 .ensures) (d .before .first .ensures) (d .if1 .left) _
-    (c .before .before .before .before .before .before .before .before .founder-mask .ensures) _ (c .before .before .start-all .ensures _ (c .before .before .before .before .before .before .begin .ensures))
+    let t = passed d _ (c .before .before .before .before .before .before .before .before .founder-mask .ensures) in
+    let begun : Taken (c .before .before .before .before .before .before .before .before .before .before .before .before .before .before .args .n) (c .before .before .before .before .before .before .before .before .before .before .before .before .before .before .args .votes) (c .before .before .before .before .before .before .before .before .founder-mask .result) (c .before .before .before .before .before .before .begin .last .0) = record { size = t .size; votes = t .votes; founders = t .founders; long = rw (c .before .before .before .before .before .before .begin .kept .0) (t .long) } in
+    leaves-opened _ _ _ _ _ _ _ (c .before .before .before .before .before .before .before .before .before .before .before .before .opening-refusal .ensures) (c .before .before .before .before .before .before .before .before .before .before .before .refusal .ensures) (c .before .before .before .before .before .before .before .before .before .before .first .ensures) (c .before .before .before .before .before .before .before .before .before .if1 .left) _
+    (c .before .before .before .before .before .before .before .before .founder-mask .ensures) _ (c .before .before .start-all .ensures _ _ begun (c .before .before .before .before .before .before .begin .ensures))
 
 pub open-spec : {M : Type 1} → statement M
 open-spec =
     tie.close
     (tie.spec
-    wrong-opening-requires
+    opening-refusal-requires
     refusal-requires
-    refusal-requires-2
     first-requires
     returns
     founder-mask-requires

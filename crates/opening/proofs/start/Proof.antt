@@ -44,7 +44,7 @@ returns c =
     let set = c .before .before .before .before .before .before .before .before .args .set in
     λ n h. c .before .before .put-recorder .ensures
     ∙ ap (λ (x : RecorderCell). sets (c .before .before .before .before .before .before .before .before .args .b .now) (recordersAt + k * recorderSize) (recorderForm .encode x))
-    (c .before .before .before .founder .ensures .1 n (members n set) (k + 1) (in-founders n set k h ∙ sym (c .before .before .before .before .before .before .in-mask .ensures) ∙ c .before .before .before .before .before .if1 .taken))
+    (c .before .before .before .founder .ensures .1 (members n set) (k + 1) (in-founders n set k h ∙ sym (c .before .before .before .before .before .before .in-mask .ensures) ∙ c .before .before .before .before .before .if1 .taken))
 
 same-length-2 : tie.Need-same-length-2
 same-length-2 c = search needs
@@ -55,7 +55,7 @@ returns-2 c =
     let set = c .before .before .before .before .before .before .before .before .args .set in
     λ n h. c .before .before .put-recorder2 .ensures
     ∙ ap (λ (x : RecorderCell). sets (c .before .before .before .before .before .before .before .before .args .b .now) (recordersAt + k * recorderSize) (recorderForm .encode x))
-    (c .before .before .before .outsider .ensures .1 n (members n set) (k + 1) (in-founders n set k h ∙ sym (c .before .before .before .before .before .before .in-mask .ensures) ∙ c .before .before .before .before .before .if1 .left))
+    (c .before .before .before .outsider .ensures .1 (members n set) (k + 1) (in-founders n set k h ∙ sym (c .before .before .before .before .before .before .in-mask .ensures) ∙ c .before .before .before .before .before .if1 .left))
 
 pub start-spec : {M : Type 1} → statement M
 start-spec =
