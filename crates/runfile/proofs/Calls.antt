@@ -8,7 +8,7 @@ use mathlib.Core.Option.{Option, none, some}
 use lib.ListN.{length, drop, replicate}
 use lib.Seq.{drop-drop}
 use Rattle.model.specs.Call.{Words}
-use Rattle.model.specs.RunFile.{blockAt, blocksAt, RunText, trailerOf, runPart, readText, Reading, readFile, ReadAnswer, readAnswer, NextAnswer, nextAt}
+use Rattle.model.specs.RunFile.{FileOpening, openingLength, distance, blockAt, blocksAt, openingAt, RunText, trailerOf, runPart, readText, Reading, readFile, ReadAnswer, readAnswer, NextAnswer, nextAt}
 use Rattle.runfile.specs.Answers.{offsetAfter}
 use Rattle.runfile.proofs.Read.{readable, taken, opened-run, next-end, next-act}
 
@@ -44,20 +44,21 @@ all-given (suc c) n bs at h =
 
 -- From the opening that reading gives: the calls from its start give the file's actions, and then the end at every
 -- further call.
-pub reads-all : (bs : List ℕ) (x : RunText) (size founders start count : ℕ) → readFile bs ≡ Reading.text x
-    → readAnswer bs (readFile bs) ≡ ReadAnswer.opened size founders start count
+pub reads-all : (bs : List ℕ) (x : RunText) (o : FileOpening) (start count : ℕ) → readFile bs ≡ Reading.text x
+    → readAnswer bs (readFile bs) ≡ ReadAnswer.opened o start count
     → (n : ℕ) → calls (count + n) bs start ≡ map some (x .actions) ++ replicate n none
-unfolding readText runPart
-reads-all bs x size founders start count e f n =
+unfolding readText runPart openingAt distance
+reads-all bs x o start count e f n =
     let t = trailerOf bs in
     let k = taken bs x e in
     let g = readable bs (k .sound) in
-    let o = blockAt (runPart bs) in
-    let z : ReadAnswer.opened size founders start count ≡ ReadAnswer.opened (o .k) (o .r) (length bs - t .k + 16) (t .r) =
+    let from : ℕ = length bs - t .k in
+    let s : ℕ = openingLength (blockAt (runPart bs) .a) in
+    let z : ReadAnswer.opened o start count ≡ ReadAnswer.opened (openingAt (runPart bs)) (from + s) (t .r) =
     sym f ∙ ap (readAnswer bs) (e ∙ ap Reading.text (k .same)) ∙ opened-run bs (k .sound) in
     let many : count ≡ t .r = cc in
-    let from : start ≡ length bs - t .k + 16 = cc in
-    ap₂ (λ (c s : ℕ). calls (c + n) bs s) many from
-    ∙ all-given (t .r) n bs (length bs - t .k + 16) (omega (arith, g .trailer .back, g .trailer .inside))
-    ∙ ap (λ (z : List ℕ). map some (blocksAt (t .r) z) ++ replicate n none) (sym (drop-drop 16 (length bs - t .k) bs))
+    let first : start ≡ from + s = cc in
+    ap₂ (λ (c s : ℕ). calls (c + n) bs s) many first
+    ∙ all-given (t .r) n bs (from + s) (omega (arith, g .opening .back, g .trailer .inside))
+    ∙ ap (λ (z : List ℕ). map some (blocksAt (t .r) z) ++ replicate n none) (sym (drop-drop s from bs))
     ∙ ap (λ (y : RunText). map some (y .actions) ++ replicate n none) (sym (k .same))

@@ -1,4 +1,5 @@
 pub mod Blocks
+pub mod Openings
 pub mod Calls
 pub mod Theorems
 pub mod Read

@@ -3,7 +3,7 @@
 use Prim.Native.Nat.{ℕ, suc, _+_, _-_, _*_, _^_, _≤_, _<_}
 use native.Mathlib.Omega.{arith}
 use mathlib.Core.Path.{_≡_, refl, sym, ap, ap₂, _∙_}
-use mathlib.Core.Bool.{Bool, true, false, and-eq-true-iff}
+use mathlib.Core.Bool.{Bool, true, false}
 use mathlib.Core.List.{List, [], _∷_, _++_, append-nil}
 use lib.Dec.{eqb, lit<}
 use lib.ListN.{length, getD, take, drop, length-append, length-drop, take-append-drop}
@@ -11,14 +11,17 @@ use lib.Seq.{sets, sets-eq, take-at, drop-at, take-all, drop-drop, drop-append-a
 use borrow.Author.Tests.{eqb-true}
 use Rattle.base.specs.Lists.{Each}
 use Rattle.base.specs.Chains.{refuse, _⨾_}
-use Rattle.model.specs.Opening.{wrongOpening, openRefusal}
+use Rattle.base.proofs.Bools.{and-both}
+use Rattle.model.specs.Opening.{openRefusal}
 use Rattle.model.specs.Call.{Words, wordsOf}
-use Rattle.model.specs.RunFile.{maxFile, blockAt, blockBytes, blocksAt, blocksBytes, RunText, distance, trailerOf, runPart, brokenFile, readText, Reading, readRefusal, readFile, fileBytes, WriteAnswer, writeFile}
-use Rattle.runfile.specs.Answers.{trailerFor, restZero, actionsOf, runOf}
-use Rattle.runfile.specs.InRange.{Bytes, Small, SmallRun}
+use Rattle.model.specs.RunFile.{FileOpening, openingIn, maxFile, maxActions, openingLength, distance, blockAt, blockBytes, blocksAt, blocksBytes, openingAt, openingBytes, RunText, trailerOf, runPart, brokenFile, readText, Reading, readRefusal, readFile, fileBytes, WriteAnswer, writeFile}
+use Rattle.runfile.specs.declared.FileOpening as Code
+use Rattle.runfile.specs.Answers.{voteWords, fileOpening, trailerFor, restZero, actionsOf, runOf}
+use Rattle.runfile.specs.InRange.{Bytes, Small, SmallOpening, SmallRun, openingRead, asRead}
 use Rattle.runfile.proofs.Blocks.{bytes-drop, length-blockBytes, length-blocksBytes, length-blocksAt, bytes-block, block-bytes, bytes-blocks, blocks-bytes}
-use Rattle.runfile.proofs.Read.{Readable, readable, not-broken, read-text, taken}
-use Rattle.runfile.proofs.WriteLaws.{written-when, write-run}
+use Rattle.runfile.proofs.Openings.{fits, few, least, head, length-openingBytes, block-is, bytes-opening, same-opening, opening-bytes}
+use Rattle.runfile.proofs.Read.{OpenedBy, Readable, readable, not-broken, read-text, taken}
+use Rattle.runfile.proofs.WriteLaws.{Allowed, not-refusing, written-when, write-run}
 
 -- reading is decided by these two
 reading : (xs ys : List ℕ) → brokenFile xs ≡ brokenFile ys → readText xs ≡ readText ys → readFile xs ≡ readFile ys
@@ -26,11 +29,15 @@ unfolding readFile readRefusal
 reading xs ys e f =
     ap₂
     (λ (broken : Bool) (x : RunText).
-    elim (eqb (refuse broken 19 ⨾ openRefusal (x .opening)) 0) [
+    elim (eqb (refuse broken 19 ⨾ openRefusal (openingIn (x .opening))) 0) [
       | true ↦ Reading.text x
-      | false ↦ Reading.refused (refuse broken 19 ⨾ openRefusal (x .opening))
+      | false ↦ Reading.refused (refuse broken 19 ⨾ openRefusal (openingIn (x .opening)))
     ])
     e f
+
+-- the run of a part of a file, by the trailer
+abbrev textOf : List ℕ → Words → RunText
+textOf part t = record { opening = openingAt part; actions = blocksAt (t .r) (drop (openingLength (openingAt part .third)) part) }
 
 -- ## "Bytes before the block are passed over."
 
@@ -52,11 +59,7 @@ module _ (pre f : List ℕ) (g : Readable f) where
 
   same-text : readText (pre ++ f) ≡ readText f
   unfolding readText
-  same-text =
-      ap₂
-      (λ (part : List ℕ) (t : Words).
-      record { opening = record { size = blockAt part .k; founders = blockAt part .r }; actions = blocksAt (t .r) (drop 16 part) })
-      same-part same-trailer
+  same-text = ap₂ textOf same-part same-trailer
 
   still : length pre + length f ≤ 65536 → Readable (pre ++ f)
   still h =
@@ -66,12 +69,8 @@ module _ (pre f : List ℕ) (g : Readable f) where
         high = omega arith;
         trailer =
             rw same-trailer
-            (record {
-              back = g .trailer .back;
-              inside = omega (arith, g .trailer .inside);
-              rest = g .trailer .rest;
-            });
-        opening = rw same-part (g .opening);
+            (record { low = g .trailer .low; inside = omega (arith, g .trailer .inside); rest = g .trailer .rest });
+        opening = rw (same-part, same-trailer) (g .opening);
       }
 
 pub earlier-bytes : (pre f : List ℕ) → brokenFile f ≡ false → length pre + length f ≤ maxFile
@@ -84,80 +83,104 @@ earlier-bytes pre f e h =
 
 -- ## "It reads back as the same opening and actions"
 
-module _ (x : RunText) (s : SmallRun x) (many : length (x .actions) ≤ 4094) where
+module _ (x : RunText) (s : SmallRun x) (third : x .opening .third ≤ 1) (many : length (x .actions) ≤ maxActions (x .opening .third)) where
+  abbrev o : FileOpening
+  o = x .opening
+
   abbrev n : ℕ
   n = length (x .actions)
 
-  abbrev head : Words
-  head = wordsOf (x .opening .size) (x .opening .founders) 0 0
+  -- where the actions start
+  abbrev start : ℕ
+  start = openingLength (o .third)
 
   abbrev f : List ℕ
   f = fileBytes x
 
-  -- the opening block, the actions, the trailer
+  -- the actions, the trailer
   abbrev body : List ℕ
-  body = blocksBytes (x .actions) ++ blockBytes (trailerFor n)
+  body = blocksBytes (x .actions) ++ blockBytes (trailerFor (o .third) n)
 
-  parts : f ≡ blockBytes head ++ body
+  parts : f ≡ openingBytes o ++ body
   unfolding fileBytes
   parts = refl
 
+  length-head : length (openingBytes o) ≡ start
+  length-head = length-openingBytes o (s .opening .eight)
+
   length-body : length body ≡ 16 * n + 16
-  length-body = length-append (blocksBytes (x .actions)) (blockBytes (trailerFor n)) ∙ ap₂ _+_ (length-blocksBytes (x .actions)) (length-blockBytes (trailerFor n))
+  length-body =
+      length-append (blocksBytes (x .actions)) (blockBytes (trailerFor (o .third) n))
+      ∙ ap₂ _+_ (length-blocksBytes (x .actions)) (length-blockBytes (trailerFor (o .third) n))
 
-  pub length-file : length f ≡ 32 + 16 * n
-  length-file = ap length parts ∙ length-append (blockBytes head) body ∙ omega (arith, length-blockBytes head, length-body)
+  pub length-file : length f ≡ distance (o .third) n
+  unfolding distance
+  length-file = ap length parts ∙ length-append (openingBytes o) body ∙ omega (arith, length-head, length-body)
 
-  rest-of : drop 16 f ≡ body
-  rest-of = ap (drop 16) parts ∙ drop-at (blockBytes head) body 16 (length-blockBytes head)
+  -- it is within a file
+  high : distance (o .third) n ≤ 65536
+  high = fits (o .third) n many
 
-  trailer : trailerOf f ≡ trailerFor n
+  rest-of : drop start f ≡ body
+  rest-of = ap (drop start) parts ∙ drop-at (openingBytes o) body start length-head
+
+  trailer : trailerOf f ≡ trailerFor (o .third) n
   unfolding trailerOf distance
   trailer =
-      let e : length f - 16 ≡ 16 + 16 * n = omega (arith, length-file) in
-      let small : Small (trailerFor n) = record { k = omega arith; r = omega arith; a = lit< tt; b = lit< tt } in
+      let t : Words = trailerFor (o .third) n in
+      let e : length f - 16 ≡ start + 16 * n = omega (arith, length-file) in
+      let small : Small t = record { k = omega (arith, high); r = omega (arith, high); a = lit< tt; b = lit< tt } in
       ap blockAt
       (ap (λ (m : ℕ). drop m f) e
-      ∙ sym (drop-drop (16 * n) 16 f)
+      ∙ sym (drop-drop (16 * n) start f)
       ∙ ap (drop (16 * n)) rest-of
-      ∙ drop-at (blocksBytes (x .actions)) (blockBytes (trailerFor n)) (16 * n) (length-blocksBytes (x .actions))
-      ∙ sym (append-nil (blockBytes (trailerFor n))))
-      ∙ bytes-block (trailerFor n) small []
+      ∙ drop-at (blocksBytes (x .actions)) (blockBytes t) (16 * n) (length-blocksBytes (x .actions))
+      ∙ sym (append-nil (blockBytes t)))
+      ∙ bytes-block t small []
 
   part : runPart f ≡ f
-  unfolding runPart distance
+  unfolding runPart
   part =
-      let e : length f - (32 + 16 * n) ≡ 0 = omega (arith, length-file) in
+      let e : length f - distance (o .third) n ≡ 0 = omega (arith, length-file) in
       ap (λ (t : Words). drop (length f - t .k) f) trailer ∙ ap (λ (m : ℕ). drop m f) e
 
-  opening : blockAt f ≡ head
-  opening = ap blockAt parts ∙ bytes-block head (record { k = s .size; r = s .founders; a = lit< tt; b = lit< tt }) body
+  opening : blockAt f ≡ head o
+  opening = ap blockAt parts ∙ block-is o (s .opening) third body
 
   written-good : Readable f
-  unfolding distance
   written-good =
+      let low : 32 ≤ distance (o .third) n = least (o .third) n in
       record {
         low = omega (arith, length-file);
-        high = omega (arith, length-file);
-        trailer = rw trailer (record { back = refl; inside = omega (arith, length-file); rest = refl });
-        opening = ap restZero (ap blockAt part ∙ opening);
+        high = omega (arith, length-file, high);
+        trailer = rw trailer (record { low = low; inside = omega (arith, length-file); rest = refl });
+        opening = rw (part, opening, trailer) (record { third = third; last = refl; back = refl });
       }
 
-  written-text : readText f ≡ x
+  written-text : readText f ≡ asRead x
   unfolding readText
   written-text =
-      let acts : blocksAt n (drop 16 f) ≡ x .actions = ap (blocksAt n) rest-of ∙ bytes-blocks (x .actions) (s .actions) (blockBytes (trailerFor n)) in
-      ap₂
-      (λ (part : List ℕ) (t : Words).
-      record { opening = record { size = blockAt part .k; founders = blockAt part .r }; actions = blocksAt (t .r) (drop 16 part) })
-      part trailer
-      ∙ ap₂ (λ (o : Words) (ws : List Words). record { opening = record { size = o .k; founders = o .r }; actions = ws }) opening acts
+      let op : openingAt f ≡ openingRead o = ap openingAt parts ∙ bytes-opening o (s .opening) third body in
+      let acts : blocksAt n (drop start f) ≡ x .actions =
+      ap (blocksAt n) rest-of ∙ bytes-blocks (x .actions) (s .actions) (blockBytes (trailerFor (o .third) n)) in
+      ap₂ textOf part trailer
+      ∙ ap (λ (y : FileOpening). record { opening = y; actions = blocksAt n (drop (openingLength (y .third)) f) }) op
+      ∙ ap (λ (ws : List Words). record { opening = openingRead o; actions = ws }) acts
 
--- the words that a slice of 32-bit words holds
-pub small-run : (n f : ℕ) (ws : List ℕ) → n < 2 ^ 32 → f < 2 ^ 32 → ((i : ℕ) → getD ws i 0 < 2 ^ 32) → SmallRun (runOf n f ws)
+-- the words that an opening and a slice of 32-bit words hold
+pub small-run : (o : Code.FileOpening) (ws : List ℕ) → o .size < 2 ^ 32 → o .founders < 2 ^ 32
+    → ((i : ℕ) → getD (voteWords (o .words)) i 0 < 2 ^ 32) → ((i : ℕ) → getD ws i 0 < 2 ^ 32) → SmallRun (runOf (fileOpening o) ws)
 unfolding actionsOf
-small-run n f ws h k s = record { size = h; founders = k; actions = all ws s }
+small-run o ws h k v s =
+    record {
+      opening = record { size = h; founders = k; words = λ e. each (voteWords (o .words)) v; eight = λ e. refl };
+      actions = all ws s;
+    }
   where
+    each : (ws : List ℕ) → ((i : ℕ) → getD ws i 0 < 2 ^ 32) → Each (λ w. w < 2 ^ 32) ws
+    each [] s = tt
+    each (w ∷ ws) s = (s 0, each ws (λ i. s (suc i)))
+
     all : (ws : List ℕ) → ((i : ℕ) → getD ws i 0 < 2 ^ 32) → Each Small (actionsOf ws)
     all [] s = tt
     all (k ∷ []) s = tt
@@ -173,17 +196,20 @@ front x slice h =
     sets-eq (fileBytes x) slice 0 (omega arith) ∙ ap (λ (m : ℕ). fileBytes x ++ drop m slice) z
 
 pub reads-back : (x : RunText) (slice : List ℕ) (n : ℕ) → SmallRun x → writeFile x slice .answer ≡ WriteAnswer.written n
-    → readFile (take n (writeFile x slice .bytes)) ≡ Reading.text x
+    → readFile (take n (writeFile x slice .bytes)) ≡ Reading.text (asRead x)
 reads-back x slice n s e =
     let w = written-when x slice n e in
+    let a = w .allows in
     let f = fileBytes x in
-    let l = length-file x s (w .few) in
-    let t = written-text x s (w .few) in
+    let l = length-file x s (a .third) (a .few) in
+    let t = written-text x s (a .third) (a .few) in
     let same : take n (writeFile x slice .bytes) ≡ f =
-    ap (take n) (w .bytes ∙ front x slice (omega (arith, w .room)))
+    ap (take n) (w .bytes ∙ front x slice (omega (arith, a .fits)))
     ∙ take-at f (drop (length f) slice) n (l ∙ sym (w .size)) in
+    let right : openRefusal (openingIn (readText f .opening)) ≡ 0 =
+    ap (λ (y : RunText). openRefusal (openingIn (y .opening))) t ∙ ap openRefusal (same-opening (x .opening)) ∙ a .right in
     ap readFile same
-    ∙ read-text f (not-broken f (written-good x s (w .few))) (ap (λ (y : RunText). wrongOpening (y .opening)) t ∙ w .right)
+    ∙ read-text f (not-broken f (written-good x s (a .third) (a .few))) right
     ∙ ap Reading.text t
 
 -- ## "a file without earlier bytes is written back unchanged"
@@ -192,8 +218,11 @@ module _ (bs : List ℕ) (g : Readable bs) (whole : length bs ≡ trailerOf bs .
   abbrev c : ℕ
   c = trailerOf bs .r
 
-  long : length bs ≡ 32 + 16 * c
-  long = whole ∙ g .trailer .back
+  abbrev third : ℕ
+  third = blockAt bs .a
+
+  abbrev from : ℕ
+  from = openingLength third
 
   all : runPart bs ≡ bs
   unfolding runPart
@@ -201,45 +230,57 @@ module _ (bs : List ℕ) (g : Readable bs) (whole : length bs ≡ trailerOf bs .
       let e : length bs - trailerOf bs .k ≡ 0 = omega arith in
       ap (λ (m : ℕ). drop m bs) e
 
-  -- a block with two zeros at its end
+  opened : OpenedBy (blockAt bs) (trailerOf bs)
+  opened = rw all at (g .opening)
+
+  long : length bs ≡ from + 16 + 16 * c
+  unfolding distance
+  long = whole ∙ opened .back
+
+  first : openingBytes (openingAt bs) ≡ take from bs
+  first = opening-bytes bs (opened .last) (omega (arith, long)) b
+
+  -- a trailer with two zeros at its end
   zeros : (w : Words) → restZero w ≡ true → wordsOf (w .k) (w .r) 0 0 ≡ w
   zeros w e =
-      let p = and-eq-true-iff (eqb (w .a) 0) (eqb (w .b) 0) .0 e in
+      let p = and-both (eqb (w .a) 0) (eqb (w .b) 0) e in
       λ i. record { k = w .k; r = w .r; a = sym (eqb-true (w .a) 0 (p .0)) i; b = sym (eqb-true (w .b) 0 (p .1)) i }
 
-  first : blockBytes (wordsOf (blockAt bs .k) (blockAt bs .r) 0 0) ≡ take 16 bs
-  first =
-      ap blockBytes (zeros (blockAt bs) (rw all at (g .opening)))
-      ∙ block-bytes bs (omega (arith, g .low)) b
-
-  last : blockBytes (trailerFor c) ≡ drop (16 * c) (drop 16 bs)
-  unfolding distance trailerOf
+  last : blockBytes (trailerFor third c) ≡ drop (16 * c) (drop from bs)
+  unfolding trailerOf
   last =
       let t = trailerOf bs in
-      let e : length bs - 16 ≡ 16 + 16 * c = omega (arith, long) in
+      let e : length bs - 16 ≡ from + 16 * c = omega (arith, long) in
       let l : length (drop (length bs - 16) bs) ≤ 16 = simp length-drop (omega (arith, g .low)) in
-      let d : drop (length bs - 16) bs ≡ drop (16 * c) (drop 16 bs) = ap (λ (m : ℕ). drop m bs) e ∙ sym (drop-drop (16 * c) 16 bs) in
-      ap (λ (k : ℕ). blockBytes (wordsOf k c 0 0)) (sym (g .trailer .back))
+      let d : drop (length bs - 16) bs ≡ drop (16 * c) (drop from bs) = ap (λ (m : ℕ). drop m bs) e ∙ sym (drop-drop (16 * c) from bs) in
+      ap (λ (k : ℕ). blockBytes (wordsOf k c 0 0)) (sym (opened .back))
       ∙ ap blockBytes (zeros t (g .trailer .rest))
       ∙ block-bytes (drop (length bs - 16) bs) (simp length-drop (omega (arith, g .low))) (bytes-drop (length bs - 16) bs b)
       ∙ take-all 16 (drop (length bs - 16) bs) l
       ∙ d
 
+  text : readText bs ≡ textOf bs (trailerOf bs)
+  unfolding readText
+  text = ap (λ (part : List ℕ). textOf part (trailerOf bs)) all
+
+  pub count : length (readText bs .actions) ≡ c
+  count = ap (λ (y : RunText). length (y .actions)) text ∙ length-blocksAt c _
+
+  pub third-is : readText bs .opening .third ≡ third
+  unfolding openingAt
+  third-is = ap (λ (y : RunText). y .opening .third) text
+
   file-back : fileBytes (readText bs) ≡ bs
-  unfolding fileBytes readText
+  unfolding fileBytes openingAt
   file-back =
-      let acts : List Words = blocksAt c (drop 16 bs) in
-      let n : length acts ≡ c = length-blocksAt c (drop 16 bs) in
-      let room : 16 * c ≤ length (drop 16 bs) = simp length-drop (omega (arith, long)) in
-      ap
-      (λ (part : List ℕ).
-      let ws : List Words = blocksAt c (drop 16 part) in
-      blockBytes (wordsOf (blockAt part .k) (blockAt part .r) 0 0) ++ (blocksBytes ws ++ blockBytes (trailerFor (length ws))))
-      all
+      let rest : List ℕ = drop from bs in
+      let n : length (blocksAt c rest) ≡ c = length-blocksAt c rest in
+      let room : 16 * c ≤ length rest = simp length-drop (omega (arith, long)) in
+      ap fileBytes text
       ∙ ap₂ _++_ first
-      (ap₂ _++_ (blocks-bytes c (drop 16 bs) room (bytes-drop 16 bs b)) (ap (λ (m : ℕ). blockBytes (trailerFor m)) n ∙ last)
-      ∙ take-append-drop (16 * c) (drop 16 bs))
-      ∙ take-append-drop 16 bs
+      (ap₂ _++_ (blocks-bytes c rest room (bytes-drop from bs b)) (ap (λ (m : ℕ). blockBytes (trailerFor third m)) n ∙ last)
+      ∙ take-append-drop (16 * c) rest)
+      ∙ take-append-drop from bs
 
 pub file-written-back : (bs : List ℕ) → brokenFile bs ≡ false → length bs ≡ trailerOf bs .k → Bytes bs → fileBytes (readText bs) ≡ bs
 file-written-back bs e whole b = file-back bs (readable bs e) whole b
@@ -248,15 +289,23 @@ file-written-back bs e whole b = file-back bs (readable bs e) whole b
 pub writes-back : (bs : List ℕ) (x : RunText) (slice : List ℕ) → readFile bs ≡ Reading.text x → length bs ≡ trailerOf bs .k → Bytes bs
     → length bs ≤ length slice
     → writeFile x slice ≡ record { answer = WriteAnswer.written (length bs); bytes = bs ++ drop (length bs) slice }
-unfolding readText
 writes-back bs x slice e whole b h =
     let k = taken bs x e in
     let g = readable bs (k .sound) in
-    let c : ℕ = trailerOf bs .r in
-    let n : length (x .actions) ≡ c = ap (λ (y : RunText). length (y .actions)) (k .same) ∙ length-blocksAt c (drop 16 (runPart bs)) in
-    let size : 32 + 16 * length (x .actions) ≡ length bs = omega (arith, g .trailer .back) in
+    let o = x .opening in
+    let n : ℕ = length (x .actions) in
+    let third : o .third ≡ blockAt bs .a = ap (λ (y : RunText). y .opening .third) (k .same) ∙ third-is bs g whole b in
+    let many : n ≡ trailerOf bs .r = ap (λ (y : RunText). length (y .actions)) (k .same) ∙ count bs g whole b in
+    let size : distance (o .third) n ≡ length bs = ap₂ distance third many ∙ sym (opened bs g whole b .back) ∙ sym whole in
     let file : fileBytes x ≡ bs = ap fileBytes (k .same) ∙ file-back bs g whole b in
-    let w : wrongOpening (x .opening) ≡ false = ap (λ (y : RunText). wrongOpening (y .opening)) (k .same) ∙ k .right in
-    write-run x slice w (omega (arith, g .high)) (omega arith)
+    let right : openRefusal (openingIn o) ≡ 0 = ap (λ (y : RunText). openRefusal (openingIn (y .opening))) (k .same) ∙ k .right in
+    let a : Allowed o n (length slice) =
+    record {
+      right = right;
+      third = rw third (opened bs g whole b .third);
+      few = few (o .third) n (omega (arith, g .high));
+      fits = omega arith;
+    } in
+    write-run x slice (not-refusing o n (length slice) a)
     ∙ ap₂ (λ (m : ℕ) (ys : List ℕ). record { answer = WriteAnswer.written m; bytes = ys }) size
     (front x slice (omega (arith, ap length file)) ∙ ap (λ (ys : List ℕ). ys ++ drop (length ys) slice) file)
