@@ -17,7 +17,7 @@ use Rattle.model.specs.Call.{Words, wordsOf}
 use Rattle.model.specs.RunFile.{FileOpening, openingIn, maxFile, maxActions, openingLength, distance, blockAt, blockBytes, blocksAt, blocksBytes, openingAt, openingBytes, RunText, trailerOf, runPart, brokenFile, readText, Reading, readRefusal, readFile, fileBytes, WriteAnswer, writeFile}
 use Rattle.runfile.specs.declared.FileOpening as Code
 use Rattle.runfile.specs.Answers.{voteWords, fileOpening, trailerFor, restZero, actionsOf, runOf}
-use Rattle.runfile.specs.InRange.{Bytes, Small, SmallOpening, SmallRun, openingRead, asRead}
+use Rattle.runfile.specs.InRange.{Bytes, Small, SmallRun, openingRead, asRead}
 use Rattle.runfile.proofs.Blocks.{bytes-drop, length-blockBytes, length-blocksBytes, length-blocksAt, bytes-block, block-bytes, bytes-blocks, blocks-bytes}
 use Rattle.runfile.proofs.Openings.{fits, few, least, head, length-openingBytes, block-is, bytes-opening, same-opening, opening-bytes}
 use Rattle.runfile.proofs.Read.{OpenedBy, Readable, readable, not-broken, read-text, taken}
