@@ -1,18 +1,21 @@
 // The C interface (include/hall.h): open, step, page and run files, on numbers and slices. Each function returns 0 or
 // the number of the refusal. An answer is words in a lent slice.
 ghost use mathlib.Core.Path.{_≡_};
+ghost use mathlib.Core.List.{[], _∷_};
 ghost use Rattle.calls.specs.Calls.{openOn};
 ghost use Rattle.model.specs.Opening.{openingOf};
 ghost use Rattle.model.specs.Call.{wordsOf};
 ghost use Rattle.calls.specs.Lent.{stepLent, pageLent, Leaves};
 ghost use Rattle.calls.specs.RunsLent.{runReadLent, runActionLent, runWriteLent};
-ghost use Rattle.runfile.specs.Answers.{runOf};
+ghost use Rattle.runfile.specs.Answers.{openingWith, runOf};
 use marshal::page_into;
 use marshal::step_into;
 use marshal_runs::run_action_into;
 use marshal_runs::run_read_into;
 use marshal_runs::run_write_into;
 use opening::open;
+use runfile::FileOpening;
+use runfile::Votes;
 
 // Opens a hall of n recorders with the founders of a word.
 #[no_mangle]
@@ -66,18 +69,46 @@ pub extern "C" fn hall_run_action(file: &[u8], at: usize, words: &mut [u8]) -> u
     run_action_into(file, at, words)
 }
 
-// Writes a run, four words an action, at the start of a slice.
+// Writes a run, four words an action, at the start of a slice: its opening is N, the founders word, the third word and the
+// eight vote words.
 #[no_mangle]
 pub extern "C" fn hall_run_write(
     file: &mut [u8],
     n: u32,
     founders: u32,
+    third: u32,
+    v1: u32,
+    v2: u32,
+    v3: u32,
+    v4: u32,
+    v5: u32,
+    v6: u32,
+    v7: u32,
+    v8: u32,
     actions: &[u32],
     words: &mut [u8],
 ) -> u32
     ensures { λ r. ⌜ Leaves
-        (runWriteLent (now (file .entry)) (runOf n founders (now (actions .entry))) (now (words .entry)))
+        (runWriteLent (now (file .entry))
+        (runOf (openingWith n founders third (v1 ∷ v2 ∷ v3 ∷ v4 ∷ v5 ∷ v6 ∷ v7 ∷ v8 ∷ [])) (now (actions .entry)))
+        (now (words .entry)))
         r (now (file .exit)) (now (words .exit)) ⌝ }
 {
-    run_write_into(file, n, founders, actions, words)
+    let votes = Votes {
+        v1,
+        v2,
+        v3,
+        v4,
+        v5,
+        v6,
+        v7,
+        v8,
+    };
+    let opening = FileOpening {
+        size: n,
+        founders,
+        third,
+        words: votes,
+    };
+    run_write_into(file, opening, actions, words)
 }

@@ -2,10 +2,10 @@
 use denote.Ref.{now}
 use Prim.Native.Nat.{ℕ}
 use mathlib.Core.Path.{sym, ap, ap₂, _∙_}
-use mathlib.Core.List.{[], _∷_}
+use mathlib.Core.List.{_∷_}
 use borrow.Author.Needs.{needs}
 use Rattle.model.specs.RunFile.{ReadAnswer, readFile, readAnswer}
-use Rattle.runfile.specs.Answers.{readMeaning}
+use Rattle.runfile.specs.Answers.{voteWords, readMeaning}
 use Rattle.runfile.proofs.Cases.{read-is}
 use Rattle.calls.specs.Lent.{taken}
 use Rattle.calls.specs.RunsLent.{offsetWords, readWords, runReadLent}
@@ -50,12 +50,12 @@ same-length c = search needs
 returns-2 : tie.Need-returns-2
 unfolding runReadLent readMeaning readWords offsetWords
 returns-2 c =
-    let a = c .before .before .before .before .before .before .before .before .before .before .before .before .before .args in
-    let x = c .before .before .before .before .before .before .before .before .read2 .given in
-    let o = x .0 .0 in
-    let e = read-is (c .before .before .before .before .before .before .before .before .before .before .read-opening .ensures) (x .1) in
+    let a = c .before .before .before .before .before .before .before .before .before .before .before .before .before .before .before .args in
+    let y = c .before .before .before .before .before .before .before .before .before .before .read2 .given in
+    let o = y .0 .0 in
+    let e = read-is (c .before .before .before .before .before .before .before .before .before .before .before .before .read-opening .ensures) (y .1) in
     leaves-as (now (a .file)) (now (a .out))
-    (ap₂ (λ (low high : ℕ). taken (o .size ∷ o .founders ∷ low ∷ high ∷ o .count ∷ [])) (c .before .before .before .before .before .before .low .ensures) (c .before .before .before .before .before .high .ensures) ∙ sym (ap readWords e))
+    (ap₂ (λ (low high : ℕ). taken (o .opening .size ∷ o .opening .founders ∷ low ∷ high ∷ o .count ∷ o .opening .third ∷ voteWords (o .opening .words))) (c .before .before .before .before .before .before .low .ensures) (c .before .before .before .before .before .high .ensures) ∙ sym (ap readWords e))
     (c .before .before .answer-into .ensures (now (a .file)))
 
 pub run-read-into-spec : {M : Type 1} → statement M

@@ -2,7 +2,7 @@
 use denote.Ref.{now}
 use lib.Dec.{lit<}
 use borrow.Author.Needs.{needs}
-use Rattle.runfile.specs.Answers.{runOf, writtenMeaning}
+use Rattle.runfile.specs.Answers.{fileOpening, runOf, writtenMeaning}
 use Rattle.marshal_runs.proofs.Runs.{written-is, write-nothing, write-tried}
 use Rattle.marshal_runs.proofs.try_write.Statement.{statement}
 use Rattle.marshal_runs.proofs.try_write.Tie as tie
@@ -23,13 +23,13 @@ returns : tie.Need-returns
 unfolding writtenMeaning
 returns c =
     let a = c .before .before .before .before .before .before .before .args in
-    λ file. write-tried (runOf (a .size) (a .founders) (now (a .actions))) _ file (c .before .tried .given .0 .0) (lit< tt) (written-is (c .before .before .before .before .write .ensures .0) (c .before .tried .given .1))
+    λ file. write-tried (runOf (fileOpening (a .o)) (now (a .actions))) _ file (c .before .tried .given .0 .0) (lit< tt) (written-is (c .before .before .before .before .write .ensures .0) (c .before .tried .given .1))
 
 returns-2 : tie.Need-returns-2
 unfolding writtenMeaning
 returns-2 c =
     let a = c .before .before .before .before .before .before .args in
-    absurd (write-nothing (runOf (a .size) (a .founders) (now (a .actions))) _ _ (lit< tt) (written-is (c .before .before .before .write .ensures .0) (c .enum-told .given .1)))
+    absurd (write-nothing (runOf (fileOpening (a .o)) (now (a .actions))) _ _ (lit< tt) (written-is (c .before .before .before .write .ensures .0) (c .enum-told .given .1)))
 
 pub try-write-spec : {M : Type 1} → statement M
 try-write-spec =
