@@ -17,13 +17,27 @@ use opening::open;
 use runfile::FileOpening;
 use runfile::Votes;
 
-// Opens a hall of n recorders with the founders of a word.
+// Opens a hall of n recorders with the founders of a word and the votes of recorders 1 to 8.
 #[no_mangle]
-pub extern "C" fn hall_open(hall: &mut [u8], n: u32, founders: u32) -> u32
-    ensures number { λ r. ⌜ r ≡ openOn (now (hall .entry)) (openingOf n founders) .number ⌝ }
-    ensures bytes { λ r. ⌜ now (hall .exit) ≡ openOn (now (hall .entry)) (openingOf n founders) .bytes ⌝ }
+pub extern "C" fn hall_open(
+    hall: &mut [u8],
+    n: u32,
+    founders: u32,
+    v1: u32,
+    v2: u32,
+    v3: u32,
+    v4: u32,
+    v5: u32,
+    v6: u32,
+    v7: u32,
+    v8: u32,
+) -> u32
+    ensures number { λ r. ⌜ r
+        ≡ openOn (now (hall .entry)) (openingOf n founders (v1 ∷ v2 ∷ v3 ∷ v4 ∷ v5 ∷ v6 ∷ v7 ∷ v8 ∷ [])) .number ⌝ }
+    ensures bytes { λ r. ⌜ now (hall .exit)
+        ≡ openOn (now (hall .entry)) (openingOf n founders (v1 ∷ v2 ∷ v3 ∷ v4 ∷ v5 ∷ v6 ∷ v7 ∷ v8 ∷ [])) .bytes ⌝ }
 {
-    open(hall, n, founders)
+    open(hall, n, founders, [v1, v2, v3, v4, v5, v6, v7, v8])
 }
 
 // A step of kind k at recorder r with arguments a and b.

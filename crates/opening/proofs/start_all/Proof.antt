@@ -58,8 +58,8 @@ returns : tie.Need-returns Inv-loop μ-loop
 returns c =
     let e : c .before .loop .k ≡ c .before .before .before .args .n = omega arith in
     λ row rest t f.
-        c .before .loop .inv .2 row rest t f
-        ∙ ap (λ (j : ℕ). stored (begun (c .before .before .before .args .n) row (c .before .before .before .args .set) j) ++ rest) e
+    c .before .loop .inv .2 row rest t f
+    ∙ ap (λ (j : ℕ). stored (begun (c .before .before .before .args .n) row (c .before .before .before .args .set) j) ++ rest) e
 
 pub start-all-spec : {M : Type 1} → statement M
 start-all-spec =
