@@ -3,10 +3,10 @@
 //! slices as they are.
 
 use crate::actions::{judge_kind, Answer};
-use crate::hall::{open as open_hall, Hall};
+use crate::hall::{open as open_hall, Hall, Votes};
 use crate::page::Page;
 use crate::refusal;
-use crate::runfile::{action_at, read_run_file, write_run_file, BLOCK};
+use crate::runfile::{action_at, read_run_file, write_run_file, Opening, BLOCK};
 use crate::stored;
 
 /// Bytes of an answer, such as a page.
@@ -83,8 +83,8 @@ fn number(result: Result<(), u32>) -> u32 {
     result.err().unwrap_or(0)
 }
 
-fn try_open(bytes: &mut [u8], n: u32, founders: u32) -> Result<(), u32> {
-    let hall = open_hall(n, founders)?;
+fn try_open(bytes: &mut [u8], n: u32, founders: u32, votes: Votes) -> Result<(), u32> {
+    let hall = open_hall(n, founders, votes)?;
     if bytes.len() < stored::LENGTH {
         return Err(refusal::SHORT_SLICE);
     }
@@ -92,9 +92,9 @@ fn try_open(bytes: &mut [u8], n: u32, founders: u32) -> Result<(), u32> {
     Ok(())
 }
 
-/// Opens a hall in a slice; 16 before 18.
-pub fn open(bytes: &mut [u8], n: u32, founders: u32) -> u32 {
-    number(try_open(bytes, n, founders))
+/// Opens a hall in a slice; 16, 41, 18.
+pub fn open(bytes: &mut [u8], n: u32, founders: u32, votes: Votes) -> u32 {
+    number(try_open(bytes, n, founders, votes))
 }
 
 /// What a step does with a hall, or with bytes that are none, given whether
@@ -166,12 +166,22 @@ fn offset_words(at: usize) -> [u32; 2] {
 }
 
 fn try_run_read(file: &[u8], slice: &mut [u8]) -> Result<(), u32> {
-    let (n, founders, actions) = read_run_file(file)?;
+    let (opening, actions) = read_run_file(file)?;
     let [low, high] = offset_words(file.len() - BLOCK * (actions.len() + 1));
-    answer(slice, words([n, founders, low, high, actions.len() as u32]))
+    let count = actions.len() as u32;
+    let Opening {
+        n,
+        founders,
+        third,
+        votes: [v1, v2, v3, v4, v5, v6, v7, v8],
+    } = opening;
+    let votes_last = [
+        n, founders, low, high, count, third, v1, v2, v3, v4, v5, v6, v7, v8,
+    ];
+    answer(slice, words(votes_last))
 }
 
-/// Reads the opening of a run file; 19, 16, 18.
+/// Reads the opening of a run file; 19, 16, 41, 18.
 pub fn run_read(file: &[u8], words: &mut [u8]) -> u32 {
     number(try_run_read(file, words))
 }
@@ -191,7 +201,7 @@ pub fn run_action(file: &[u8], at: usize, words: &mut [u8]) -> u32 {
 
 fn try_run_write(
     file: &mut [u8],
-    (n, founders): (u32, u32),
+    opening: Opening,
     actions: &[u32],
     slice: &mut [u8],
 ) -> Result<(), u32> {
@@ -200,13 +210,13 @@ fn try_run_write(
         .map(|action| [action[0], action[1], action[2], action[3]])
         .collect();
     let mut written = file.to_vec();
-    let length = write_run_file(n, founders, &actions, &mut written)?;
+    let length = write_run_file(opening, &actions, &mut written)?;
     answer(slice, words([length as u32]))?;
     file.copy_from_slice(&written);
     Ok(())
 }
 
-/// Writes a run, four words an action, at a slice's start; 16, 19, 18.
-pub fn run_write(file: &mut [u8], opening: (u32, u32), actions: &[u32], words: &mut [u8]) -> u32 {
+/// Writes a run, four words an action, at a slice's start; 16, 41, 19, 18.
+pub fn run_write(file: &mut [u8], opening: Opening, actions: &[u32], words: &mut [u8]) -> u32 {
     number(try_run_write(file, opening, actions, words))
 }

@@ -6,9 +6,9 @@
 //! from an opening have.
 
 use crate::hall::{
-    all_recorders, holds_recorder, lies_within, Entry, Hall, Message, Queued, Recorder, Seat,
-    Summary, View, LAST_ORDER_MARK, LAST_QUEUE_MARK, LAST_SEQ, MOST_ENTRIES, MOST_LABELS,
-    MOST_PENDING, MOST_QUEUED, MOST_RECORDERS, MOST_VIEWS,
+    all_recorders, holds_recorder, judge_votes, lies_within, Entry, Hall, Message, Queued,
+    Recorder, Seat, Summary, View, LAST_ORDER_MARK, LAST_QUEUE_MARK, LAST_SEQ, MOST_ENTRIES,
+    MOST_LABELS, MOST_PENDING, MOST_QUEUED, MOST_RECORDERS, MOST_VIEWS,
 };
 
 fn is_queue_mark(mark: u32) -> bool {
@@ -23,6 +23,7 @@ impl Hall {
     /// Whether all fields are in their ranges and keep the rules between them.
     pub fn check(&self) -> bool {
         (1..=MOST_RECORDERS).contains(&self.n)
+            && judge_votes(self.n, &self.votes).is_ok()
             && self.check_entries()
             && self.check_views()
             && self.check_recorders()

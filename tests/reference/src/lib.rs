@@ -32,7 +32,10 @@ pub mod runfile;
 pub mod stored;
 
 pub use actions::Answer;
-pub use hall::{open, Entry, Hall, Label, Message, Phase, Queued, Recorder, Seat, Summary, View};
+pub use hall::{
+    built_in_votes, open, open_built_in, Entry, Hall, Label, Message, Phase, Queued, Recorder,
+    Seat, Summary, View, Votes,
+};
 pub use listing::listing;
 pub use page::Page;
-pub use runfile::{read_run_file, write_run_file};
+pub use runfile::{read_run_file, write_run_file, Opening};

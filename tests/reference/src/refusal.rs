@@ -37,3 +37,6 @@ pub const NOT_READY: u32 = 39;
 /// A list, the sequence number or the summary's place is full, or the new
 /// label exists already.
 pub const FULL: u32 = 40;
+/// A vote above 1,000, a vote other than 0 for a recorder above N, or a row
+/// whose votes are all 0.
+pub const VOTES: u32 = 41;

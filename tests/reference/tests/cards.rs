@@ -1,6 +1,8 @@
 //! The bench cards, and a few more short runs from an opening.
 
-use reference::{listing, open, read_run_file, write_run_file, Answer, Hall};
+use reference::{
+    built_in_votes, listing, open_built_in, read_run_file, write_run_file, Answer, Hall, Opening,
+};
 
 const DONE: Answer = Answer::Done;
 
@@ -8,10 +10,10 @@ fn refused(number: u32) -> Answer {
     Answer::Refused(number)
 }
 
-/// A run file of its own length.
+/// A run file with the built-in row, of its own length.
 fn run_file(n: u32, founders: u32, actions: &[[u32; 4]]) -> Vec<u8> {
     let mut file = vec![0; 32 + 16 * actions.len()];
-    let length = write_run_file(n, founders, actions, &mut file);
+    let length = write_run_file(Opening::built_in(n, founders), actions, &mut file);
     assert_eq!(length, Ok(file.len()));
     file
 }
@@ -49,21 +51,21 @@ fn the_listing() {
 
 #[test]
 fn openings() {
-    assert_eq!(open(0, 0), Err(16));
-    assert_eq!(open(9, 0), Err(16));
-    assert_eq!(open(3, 8), Err(16));
-    assert_eq!(open(8, 1 << 31), Err(16));
-    assert!(open(8, 0).is_ok_and(|hall| hall.check()));
-    let hall = open(3, 0).unwrap();
+    assert_eq!(open_built_in(0, 0), Err(16));
+    assert_eq!(open_built_in(9, 0), Err(16));
+    assert_eq!(open_built_in(3, 8), Err(16));
+    assert_eq!(open_built_in(8, 1 << 31), Err(16));
+    assert!(open_built_in(8, 0).is_ok_and(|hall| hall.check()));
+    let hall = open_built_in(3, 0).unwrap();
     assert_eq!((hall.views[0].number, hall.views[0].members), (1, 7));
-    let hall = open(3, 2).unwrap();
+    let hall = open_built_in(3, 2).unwrap();
     assert_eq!((hall.recorder(1).current, hall.recorder(1).high), (0, 0));
     assert_eq!((hall.recorder(2).current, hall.recorder(2).high), (1, 1));
 }
 
 #[test]
 fn quorums() {
-    use reference::hall::is_quorum;
+    let is_quorum = |n, set| reference::hall::is_quorum(&built_in_votes(n), set);
     assert!(!is_quorum(3, 0b110));
     assert!(is_quorum(3, 0b011));
     assert!(is_quorum(4, 0b1110));
@@ -73,7 +75,7 @@ fn quorums() {
 
 #[test]
 fn margins() {
-    use reference::hall::margin;
+    let margin = |n, set| reference::hall::margin(&built_in_votes(n), set);
     assert_eq!(margin(3, 0b110), 0);
     assert_eq!(margin(3, 0b011), 2);
     assert_eq!(margin(3, 0), -4);
@@ -83,7 +85,7 @@ fn margins() {
 
 #[test]
 fn view_numbers() {
-    let mut hall = open(2, 0).unwrap();
+    let mut hall = open_built_in(2, 0).unwrap();
     assert_eq!(hall.step(5, 0, 0, 1), refused(14));
     assert_eq!(hall.step(5, 0, 2, 3), DONE);
     assert_eq!(hall.step(5, 0, 3, 3), DONE);
@@ -108,7 +110,7 @@ fn view_numbers() {
 #[test]
 fn the_last_view_number() {
     let last = u32::MAX;
-    let mut hall = open(1, 0).unwrap();
+    let mut hall = open_built_in(1, 0).unwrap();
     assert_eq!(hall.step(5, 0, last, 1), DONE);
     let exchange = [(6, last), (4, 0), (7, last), (8, 0)];
     assert!(all_accepted(&steps_at_1(&mut hall, &exchange)));
@@ -136,7 +138,7 @@ fn the_last_view_number() {
 
 #[test]
 fn labels_wait_for_the_summaries() {
-    let mut hall = open(1, 0).unwrap();
+    let mut hall = open_built_in(1, 0).unwrap();
     assert_eq!(hall.step(5, 0, 2, 1), DONE);
     assert!(all_accepted(&steps_at_1(&mut hall, &[(6, 2), (1, 5)])));
     assert_eq!(hall.step(2, 1, 0, 0), refused(37));
@@ -149,7 +151,7 @@ fn labels_wait_for_the_summaries() {
 
 #[test]
 fn order_of_refusals() {
-    let mut hall = open(2, 0).unwrap();
+    let mut hall = open_built_in(2, 0).unwrap();
     assert_eq!(hall.step(12, 9, 9, 9), refused(11));
     assert_eq!(hall.step(0, 1, 0, 0), refused(11));
     assert_eq!(hall.step(6, 9, 0, 0), refused(12));
@@ -164,7 +166,7 @@ fn order_of_refusals() {
 
 #[test]
 fn safe_needs_all_members() {
-    let mut hall = open(2, 0).unwrap();
+    let mut hall = open_built_in(2, 0).unwrap();
     assert!(all_accepted(&steps_at_1(
         &mut hall,
         &[(1, 5), (2, 0), (3, 0), (7, 1), (8, 0)]
@@ -177,7 +179,7 @@ fn safe_needs_all_members() {
 
 #[test]
 fn limits_of_entries_and_views() {
-    let mut hall = open(1, 0).unwrap();
+    let mut hall = open_built_in(1, 0).unwrap();
     for value in 0..64 {
         assert_eq!(hall.step(1, 1, value, 0), DONE);
     }
@@ -194,7 +196,7 @@ fn limits_of_entries_and_views() {
 /// summaries there are.
 #[test]
 fn safe_labels_end_with_the_view() {
-    let mut hall = open(1, 0).unwrap();
+    let mut hall = open_built_in(1, 0).unwrap();
     let entry = [(1, 5), (2, 0), (3, 0), (7, 1), (8, 0), (9, 0)];
     assert!(all_accepted(&steps_at_1(&mut hall, &entry)));
     assert_eq!(hall.step(5, 0, 2, 1), DONE);
@@ -214,7 +216,7 @@ fn safe_labels_end_with_the_view() {
 /// A summary is shown as sent, also when its source has moved on.
 #[test]
 fn summaries_are_shown_as_sent() {
-    let mut hall = open(2, 0).unwrap();
+    let mut hall = open_built_in(2, 0).unwrap();
     assert_eq!(hall.step(5, 0, 2, 3), DONE);
     assert!(all_accepted(&steps_at_1(
         &mut hall,
@@ -237,7 +239,7 @@ fn summaries_are_shown_as_sent() {
 /// of the one with the lower number.
 #[test]
 fn the_longest_order_represents() {
-    let mut hall = open(3, 7).unwrap();
+    let mut hall = open_built_in(3, 7).unwrap();
     // An entry of view 1 that 2 alone has received.
     let at_2 = [[1, 2, 700, 0], [2, 2, 0, 0], [3, 2, 0, 0], [7, 2, 1, 0]];
     assert!(all_accepted(&steps(&mut hall, &at_2)));
@@ -273,7 +275,7 @@ fn the_longest_order_represents() {
 
 #[test]
 fn pages() {
-    let mut hall = open(3, 3).unwrap();
+    let mut hall = open_built_in(3, 3).unwrap();
     let steps = [(1, 5), (2, 0), (1, 6), (2, 0), (3, 0), (7, 1), (8, 0)];
     assert!(all_accepted(&steps_at_1(&mut hall, &steps)));
     let page = hall.page(1, 1).unwrap();
@@ -304,7 +306,7 @@ fn pages() {
 /// Founders have highest primary 1, also with a margin of 0.
 #[test]
 fn the_page_of_a_founder_without_a_quorum() {
-    let page = open(3, 1).unwrap().page(1, 0).unwrap();
+    let page = open_built_in(3, 1).unwrap().page(1, 0).unwrap();
     assert_eq!((page.view, page.members), (1, 1));
     assert_eq!((page.margin, page.high), (0, 1));
 }
@@ -313,9 +315,10 @@ fn the_page_of_a_founder_without_a_quorum() {
 fn run_files() {
     let actions = [[1, 2, 3, 4], [u32::MAX, 0, 7, 8]];
     let file = run_file(3, 5, &actions);
-    assert_eq!(read_run_file(&file), Ok((3, 5, actions.to_vec())));
+    let run = (Opening::built_in(3, 5), actions.to_vec());
+    assert_eq!(read_run_file(&file), Ok(run.clone()));
     let preceded = [&[9, 9, 9][..], &file].concat();
-    assert_eq!(read_run_file(&preceded), Ok((3, 5, actions.to_vec())));
+    assert_eq!(read_run_file(&preceded), Ok(run));
     assert_eq!(read_run_file(&file[1..]), Err(19));
     assert_eq!(read_run_file(&file[..31]), Err(19));
     assert_eq!(read_run_file(&[]), Err(19));
@@ -344,16 +347,17 @@ fn run_files_with_wrong_words() {
 #[test]
 fn writing_run_files() {
     let mut bytes = [7; 40];
-    assert_eq!(write_run_file(0, 0, &[[0; 4]; 4_095], &mut bytes), Err(16));
-    assert_eq!(write_run_file(1, 0, &[[0; 4]; 4_095], &mut bytes), Err(19));
-    assert_eq!(write_run_file(1, 0, &[[0; 4]], &mut bytes), Err(18));
+    let write = |n, actions: &[[u32; 4]], bytes: &mut [u8]| {
+        write_run_file(Opening::built_in(n, 0), actions, bytes)
+    };
+    assert_eq!(write(0, &[[0; 4]; 4_095], &mut bytes), Err(16));
+    assert_eq!(write(1, &[[0; 4]; 4_095], &mut bytes), Err(19));
+    assert_eq!(write(1, &[[0; 4]], &mut bytes), Err(18));
     assert_eq!(bytes, [7; 40]);
-    assert_eq!(write_run_file(1, 0, &[], &mut bytes), Ok(32));
+    assert_eq!(write(1, &[], &mut bytes), Ok(32));
     assert_eq!(bytes[32..], [7; 8]);
-    assert_eq!(read_run_file(&bytes[..32]), Ok((1, 0, vec![])));
+    let run = (Opening::built_in(1, 0), vec![]);
+    assert_eq!(read_run_file(&bytes[..32]), Ok(run));
     let mut longest = vec![0; 65_536];
-    assert_eq!(
-        write_run_file(1, 0, &[[0; 4]; 4_094], &mut longest),
-        Ok(65_536)
-    );
+    assert_eq!(write(1, &[[0; 4]; 4_094], &mut longest), Ok(65_536));
 }

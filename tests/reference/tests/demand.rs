@@ -12,22 +12,27 @@
 //!
 //! All but the last hold for whichever source with the greatest highest primary
 //! represents, the same one for every member of a view: for HL3's choice, for
-//! 01's, and for one that changes from view to view. They do not hold for a
-//! choice that looks at the length first, nor the last one for 01's, which shows
-//! that these runs can fail.
+//! 01's, and for one that changes from view to view. All hold for every row of
+//! votes that passes. They do not hold for a choice that looks at the length
+//! first, nor the last one for 01's, nor for a row that changes on the way, which
+//! shows that these runs can fail.
 
 use reference::choice::{
     greatest_number, least_number, length_first, longest_order, Choice, Source,
 };
 use reference::exchange::heard_sources;
-use reference::hall::at_mark;
-use reference::{actions, open, refusal, Answer, Hall, Phase, Recorder};
+use reference::hall::{at_mark, is_quorum, judge_votes, recorder_bit, MOST_VOTES};
+use reference::{
+    actions, built_in_votes, open, refusal, Answer, Hall, Phase, Recorder, View, Votes,
+};
 use std::collections::BTreeMap;
 
-/// Runs with HL3's choice, with each other one, and with the wrong one.
+/// Runs with HL3's choice, with each other one, with what is wrong, and with
+/// rows of votes.
 const RUNS: u64 = 240;
 const OTHER_RUNS: u64 = 120;
 const WRONG_RUNS: u64 = 800;
+const ROW_RUNS: u64 = 240;
 /// Steps between two looks at the whole hall.
 const BETWEEN_LOOKS: u32 = 40;
 
@@ -37,6 +42,44 @@ fn by_view<'a>(view: u32, sources: &[Source<'a>]) -> Source<'a> {
         0 => longest_order(view, sources),
         1 => greatest_number(view, sources),
         _ => least_number(view, sources),
+    }
+}
+
+/// The row of votes of a run.
+#[derive(Clone, Copy, PartialEq, Eq)]
+enum Rows {
+    BuiltIn,
+    Given,
+    /// Another one after each look. No hall has that.
+    Changing,
+}
+
+/// A row that passes, of any kind: small votes, any, the same for all, all for
+/// one, or all for two.
+fn random_row(random: &mut Random, n: u32) -> Votes {
+    let most = random.pick(&[1, 3, MOST_VOTES]);
+    let mut row = [0; 8];
+    match random.below(6) {
+        0 => row[..n as usize].fill(most),
+        1 => row[random.below(n) as usize] = most,
+        2 => {
+            row[random.below(n) as usize] = most;
+            row[random.below(n) as usize] = 1;
+        }
+        _ => row[..n as usize].fill_with(|| random.between(0, most)),
+    }
+    match judge_votes(n, &row) {
+        Ok(()) => row,
+        Err(_) => random_row(random, n),
+    }
+}
+
+impl Rows {
+    fn row(self, random: &mut Random, n: u32) -> Votes {
+        match self {
+            Rows::BuiltIn => built_in_votes(n),
+            _ => random_row(random, n),
+        }
     }
 }
 
@@ -223,7 +266,7 @@ fn new_set(random: &mut Random, n: u32, slow: u32) -> u32 {
 /// A formed view above R's current one, more often the newest.
 fn view_to_enter(random: &mut Random, hall: &Hall, r: u32) -> u32 {
     let current = hall.recorder(r).current;
-    let above = |view: &&reference::View| view.has(r) && view.number > current;
+    let above = |view: &&View| view.has(r) && view.number > current;
     let numbers: Vec<u32> = hall.views.iter().filter(above).map(|v| v.number).collect();
     match numbers.last() {
         None => 1,
@@ -265,6 +308,13 @@ struct Counts {
     shifted: u64,
     /// Primary views completed after another recorder completed a higher one.
     completed_late: u64,
+    /// Views completed that are primary by the row alone, and by the built-in
+    /// one alone.
+    primary_by_row: u64,
+    other_by_row: u64,
+    /// Those of them where recorder 1 is no member, and where it has no votes.
+    without_1: u64,
+    no_votes_of_1: u64,
     /// Pairs of recorders compared whose highest primaries differ, and where
     /// the lower one has confirmed something.
     unequal_pairs: u64,
@@ -281,11 +331,11 @@ struct Run {
 }
 
 impl Run {
-    fn opened(choice: Choice, n: u32, founders: u32) -> Run {
+    fn opened(choice: Choice, n: u32, founders: u32, row: Votes) -> Run {
         let lists = vec![Vec::new(); n as usize];
         Run {
             choice,
-            hall: open(n, founders).expect("the opening is taken"),
+            hall: open(n, founders, row).expect("the opening is taken"),
             submitted: lists.clone(),
             labelled: lists.clone(),
             delivered: lists,
@@ -350,16 +400,35 @@ impl Run {
         }
         let number = recorder.current;
         let unequal = u64::from(self.met_unequal_orders(recorder));
-        if recorder.high != number {
+        let primary = recorder.high == number;
+        let late = self.hall.recorders.iter().any(|other| other.high > number);
+        self.note_votes(number, primary);
+        if primary {
+            self.counts.primary_completed += 1;
+            self.counts.primary_unequal += unequal;
+            self.counts.completed_late += u64::from(late);
+        } else {
             self.counts.other_completed += 1;
             self.counts.other_unequal += unequal;
+        }
+    }
+
+    /// Notes a view that was completed, primary or not, where the built-in row
+    /// says otherwise.
+    fn note_votes(&mut self, number: u32, primary: bool) {
+        let index = self.hall.view_index(number).expect("a view was completed");
+        let members = self.hall.views[index].members;
+        if is_quorum(&built_in_votes(self.hall.n), members) == primary {
             return;
         }
-        self.counts.primary_completed += 1;
-        self.counts.primary_unequal += unequal;
-        if self.hall.recorders.iter().any(|other| other.high > number) {
-            self.counts.completed_late += 1;
-        }
+        let counts = &mut self.counts;
+        *(if primary {
+            &mut counts.primary_by_row
+        } else {
+            &mut counts.other_by_row
+        }) += 1;
+        counts.without_1 += u64::from(members & recorder_bit(1) == 0);
+        counts.no_votes_of_1 += u64::from(self.hall.votes[0] == 0);
     }
 
     /// The highest primary in the summaries sent in a recorder's view.
@@ -493,12 +562,14 @@ fn judge_refusal(k: u32, number: u32) -> Result<(), Broken> {
 }
 
 /// One run; now and then a refused call is shown to change nothing.
-fn random_run(choice: Choice, seed: u64) -> Result<Counts, Broken> {
+fn random_run(choice: Choice, rows: Rows, seed: u64) -> Result<Counts, Broken> {
     let mut random = Random(seed);
+    // Rows have numbers of their own, so that a run is the same with any.
+    let mut of_rows = Random(!seed);
     let n = random.between(1, 8);
     let founders = random.below(1 << n);
     let style = Style::random(&mut random, n);
-    let mut run = Run::opened(choice, n, founders);
+    let mut run = Run::opened(choice, n, founders, rows.row(&mut of_rows, n));
     for place in 0..style.steps {
         let kept = (place % BETWEEN_LOOKS == 0).then(|| run.hall.clone());
         let action = style.action(&mut random, &run.hall, place);
@@ -508,6 +579,9 @@ fn random_run(choice: Choice, seed: u64) -> Result<Counts, Broken> {
         }
         if place % BETWEEN_LOOKS == 0 {
             run.look()?;
+            if rows == Rows::Changing {
+                run.hall.votes = rows.row(&mut of_rows, n);
+            }
         }
     }
     run.look()?;
@@ -526,14 +600,18 @@ fn add(sum: &mut Counts, counts: Counts) {
     sum.other_unequal += counts.other_unequal;
     sum.shifted += counts.shifted;
     sum.completed_late += counts.completed_late;
+    sum.primary_by_row += counts.primary_by_row;
+    sum.other_by_row += counts.other_by_row;
+    sum.without_1 += counts.without_1;
+    sum.no_votes_of_1 += counts.no_votes_of_1;
     sum.unequal_pairs += counts.unequal_pairs;
 }
 
-/// Runs with a choice; a promise that is broken is told with its seed.
-fn random_runs(choice: Choice, runs: u64) -> Counts {
+/// Runs with a choice and rows; a promise that is broken is told with its seed.
+fn random_runs(choice: Choice, rows: Rows, runs: u64) -> Counts {
     let mut sum = Counts::default();
     for seed in 1..=runs {
-        match random_run(choice, seed) {
+        match random_run(choice, rows, seed) {
             Ok(counts) => add(&mut sum, counts),
             Err(broken) => panic!("seed {seed}: {broken}"),
         }
@@ -558,31 +636,61 @@ fn random_runs(choice: Choice, runs: u64) -> Counts {
 
 #[test]
 fn random_runs_keep_the_common_order() {
-    let sum = random_runs(longest_order, RUNS);
+    let sum = random_runs(longest_order, Rows::BuiltIn, RUNS);
     assert_eq!(sum.shifted, 0);
+    assert_eq!((sum.primary_by_row, sum.other_by_row), (0, 0));
 }
 
 #[test]
 fn so_they_do_with_the_greatest_number() {
-    let sum = random_runs(greatest_number, OTHER_RUNS);
+    let sum = random_runs(greatest_number, Rows::BuiltIn, OTHER_RUNS);
     assert!(sum.shifted > 0);
 }
 
 #[test]
 fn so_they_do_with_a_choice_by_view() {
-    random_runs(by_view, OTHER_RUNS);
+    random_runs(by_view, Rows::BuiltIn, OTHER_RUNS);
+}
+
+#[test]
+fn so_they_do_with_any_row_that_passes() {
+    let sum = random_runs(longest_order, Rows::Given, ROW_RUNS);
+    assert_eq!(sum.shifted, 0);
+    assert!(sum.primary_by_row >= ROW_RUNS / 2);
+    assert!(sum.other_by_row >= ROW_RUNS / 2);
+    assert!(sum.without_1 >= ROW_RUNS / 4);
+    assert!(sum.no_votes_of_1 >= ROW_RUNS / 4);
+}
+
+#[test]
+fn so_they_do_with_any_row_and_a_choice_by_view() {
+    random_runs(by_view, Rows::Given, OTHER_RUNS);
+}
+
+/// The promises that wrong runs break.
+fn broken_by(choice: Choice, rows: Rows) -> BTreeMap<Broken, u64> {
+    let mut broken: BTreeMap<Broken, u64> = BTreeMap::new();
+    for seed in 1..=WRONG_RUNS {
+        if let Err(what) = random_run(choice, rows, seed) {
+            *broken.entry(what).or_default() += 1;
+        }
+    }
+    println!("{broken:?}");
+    broken
 }
 
 /// With a wrong choice the same runs break the promise.
 #[test]
 fn they_do_not_with_the_length_first() {
-    let mut broken: BTreeMap<Broken, u64> = BTreeMap::new();
-    for seed in 1..=WRONG_RUNS {
-        if let Err(what) = random_run(length_first, seed) {
-            *broken.entry(what).or_default() += 1;
-        }
-    }
-    println!("{broken:?}");
+    let broken = broken_by(length_first, Rows::BuiltIn);
+    assert!(broken.contains_key(DELIVERED));
+    assert!(broken.contains_key(CONFIRMED));
+}
+
+/// So they do if the hall does not keep its row.
+#[test]
+fn they_do_not_with_a_row_that_changes() {
+    let broken = broken_by(longest_order, Rows::Changing);
     assert!(broken.contains_key(DELIVERED));
     assert!(broken.contains_key(CONFIRMED));
 }

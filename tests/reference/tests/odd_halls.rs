@@ -1,7 +1,8 @@
 //! The rules on valid halls that no run reaches, and which halls are valid.
 
 use reference::{
-    open, Answer, Entry, Hall, Label, Message, Phase, Queued, Recorder, Seat, Summary, View,
+    built_in_votes, open_built_in, Answer, Entry, Hall, Label, Message, Phase, Queued, Recorder,
+    Seat, Summary, View,
 };
 
 const DONE: Answer = Answer::Done;
@@ -27,7 +28,7 @@ fn labelled(view: u32, seq: u32, sender: u32) -> Entry {
 /// An open hall of all recorders, with 64 labelled entries of recorder 1. Later
 /// entries have lower labels.
 fn full_hall(n: u32) -> Hall {
-    let mut hall = open(n, 0).unwrap();
+    let mut hall = open_built_in(n, 0).unwrap();
     hall.entries = (0..64).map(|k| labelled(3, 64 - k, 1)).collect();
     hall
 }
@@ -99,6 +100,33 @@ fn an_entry_in_a_view_without_a_quorum() {
     assert_eq!(hall.recorder(2).safe_labels, 0);
 }
 
+/// The same view and the same messages, primary or not by the hall's row alone.
+#[test]
+fn the_row_decides() {
+    for (row, primary) in [([5, 3, 3], true), ([6, 3, 3], false)] {
+        let mut hall = full_hall(3);
+        hall.votes[..3].copy_from_slice(&row);
+        hall.views[0].members = 0b110;
+        hall.recorder_mut(1).current = 0;
+        hall.views[0].queue = vec![queued(2, Message::Entry(5))];
+        put_summary(&mut hall, 2, summary(0b10, vec![], 1, 0));
+        put_summary(&mut hall, 3, summary(0b01, vec![], 1, 0));
+        hall.recorder_mut(2).phase = Phase::Collect;
+        for r in [2, 3, 2, 3, 2, 3] {
+            assert_accepted(&mut hall, 8, r, 0);
+        }
+        let recorder = hall.recorder(2);
+        let order = if primary { vec![1, 0] } else { vec![] };
+        let high = if primary { 1 } else { 0 };
+        assert_eq!((&recorder.order, recorder.high), (&order, high));
+        for _ in 0..3 {
+            assert_accepted(&mut hall, 9, 2, 0);
+        }
+        let safe = if primary { 1 << 5 | 0b11 } else { 0 };
+        assert_eq!(hall.recorder(2).safe_labels, safe);
+    }
+}
+
 /// The summaries of recorders 1 and on, who are all. Recorder 1 has heard the
 /// others, collects, and its own summary comes next.
 fn before_the_last_of(sent: Vec<Summary>) -> Hall {
@@ -130,6 +158,7 @@ fn without_a_quorum(mut hall: Hall) -> Hall {
         hall.n += 1;
         hall.recorders.push(Recorder::starting(0));
         hall.views[0].seats.push(Seat::empty());
+        hall.votes = built_in_votes(hall.n);
     }
     hall
 }
@@ -361,7 +390,7 @@ fn a_notice_asks_members_only() {
 
 #[test]
 fn labelling_that_is_full() {
-    let mut hall = open(1, 0).unwrap();
+    let mut hall = open_built_in(1, 0).unwrap();
     hall.recorder_mut(1).next_seq = 65;
     assert_refused(&mut hall, 2, 1, 0, 38);
     hall.entries = vec![labelled(1, 7, 1)];
@@ -380,7 +409,7 @@ fn labelling_that_is_full() {
 /// The first waiting entry is labelled, also where a later one has a label.
 #[test]
 fn a_labelled_entry_after_a_waiting_one() {
-    let mut hall = open(2, 0).unwrap();
+    let mut hall = open_built_in(2, 0).unwrap();
     assert_eq!(hall.step(1, 2, 5, 0), DONE);
     assert_eq!(hall.step(1, 1, 6, 0), DONE);
     hall.entries.push(labelled(9, 9, 1));
@@ -444,7 +473,7 @@ fn marks_in_any_relation() {
 
 #[test]
 fn a_hall_without_views() {
-    let mut hall = open(2, 0).unwrap();
+    let mut hall = open_built_in(2, 0).unwrap();
     hall.views.clear();
     hall.recorders = vec![Recorder::starting(0); 2];
     hall.recorder_mut(1).phase = Phase::Send;
@@ -575,6 +604,15 @@ fn halls_with_wrong_summaries() {
     assert!(wrong(summary(0, vec![0; 65], 1, 0)));
     assert!(wrong(summary(0, vec![], 0, 0)));
     assert!(wrong(summary(0, vec![], 66, 0)));
+}
+
+#[test]
+fn halls_with_wrong_votes() {
+    assert!(valid_with(|h| h.votes = [0, 0, 1_000, 0, 0, 0, 0, 0]));
+    assert!(!valid_with(|h| h.votes = [0; 8]));
+    assert!(!valid_with(|h| h.votes[2] = 1_001));
+    assert!(!valid_with(|h| h.votes[3] = 1));
+    assert!(!valid_with(|h| h.votes = [0, 0, 0, 0, 0, 0, 0, 1]));
 }
 
 #[test]

@@ -38,8 +38,9 @@ fn answers(name: &str, choice: Choice) -> Vec<Answer> {
     let folder = Path::new(env!("CARGO_MANIFEST_DIR")).join("../vectors");
     let file = fs::read(folder.join(name).with_extension("run"));
     let file = file.unwrap_or_else(|error| panic!("{name}: {error}"));
-    let (n, founders, actions) = read_run_file(&file).expect("the file is taken");
-    let mut hall = open(n, founders).expect("the opening is taken");
+    let (opening, actions) = read_run_file(&file).expect("the file is taken");
+    let hall = open(opening.n, opening.founders, opening.row());
+    let mut hall = hall.expect("the opening is taken");
     let step = |&action| hall.step_with(choice, action);
     actions.iter().map(step).collect()
 }

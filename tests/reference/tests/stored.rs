@@ -1,6 +1,6 @@
 //! The stored form reads back, and the three calls on bytes are those of a hall.
 
-use reference::{calls, open, read_run_file, stored, Hall};
+use reference::{built_in_votes, calls, open, open_built_in, read_run_file, stored, Hall};
 use std::fs;
 use std::path::Path;
 
@@ -10,8 +10,8 @@ fn halls_of(name: &str, stride: usize) -> Vec<Hall> {
         .join("../vectors")
         .join(name)
         .with_extension("run");
-    let (n, founders, actions) = read_run_file(&fs::read(path).unwrap()).unwrap();
-    let mut hall = open(n, founders).unwrap();
+    let (opening, actions) = read_run_file(&fs::read(path).unwrap()).unwrap();
+    let mut hall = open(opening.n, opening.founders, opening.row()).unwrap();
     let mut halls = vec![hall.clone()];
     for (place, &[k, r, a, b]) in actions.iter().enumerate() {
         hall.step(k, r, a, b);
@@ -24,14 +24,14 @@ fn halls_of(name: &str, stride: usize) -> Vec<Hall> {
 
 #[test]
 fn the_length_is_that_of_the_document() {
-    assert_eq!(stored::LENGTH, 59_699);
+    assert_eq!(stored::LENGTH, 59_731);
 }
 
 #[test]
 fn opened_halls_read_back() {
     for n in 1..=8 {
         for founders in 0..1 << n {
-            let hall = open(n, founders).unwrap();
+            let hall = open_built_in(n, founders).unwrap();
             assert_eq!(stored::read(&stored::form(&hall)), Some(hall));
         }
     }
@@ -39,7 +39,8 @@ fn opened_halls_read_back() {
 
 #[test]
 fn halls_of_runs_read_back() {
-    for name in ["long-1", "long-2", "long-3", "long-4", "a2-long-1"] {
+    let names = ["long-1", "long-2", "long-3", "long-4", "a2-long-1"];
+    for name in names.into_iter().chain(["a4-long-1", "a4-mixed-2"]) {
         for hall in halls_of(name, 50) {
             assert_eq!(stored::read(&stored::form(&hall)), Some(hall));
         }
@@ -70,7 +71,7 @@ fn a_form_is_the_only_one() {
 /// entered, of a label, of a recorder's highest primary and of a summary's.
 #[test]
 fn numbers_of_four_bytes() {
-    let mut hall = open(1, 0).unwrap();
+    let mut hall = open_built_in(1, 0).unwrap();
     hall.step(1, 1, 5, 0);
     hall.step(2, 1, 0, 0);
     hall.step(5, 0, 2, 1);
@@ -94,12 +95,14 @@ fn calls_keep_to_their_slices() {
     let mut bytes = vec![7; stored::LENGTH + 3];
     let mut answer = vec![9; calls::ANSWER_LENGTH + 2];
     let short = stored::LENGTH - 1;
-    assert_eq!(calls::open(&mut bytes[..short], 3, 8), 16);
-    assert_eq!(calls::open(&mut bytes[..short], 3, 0), 18);
+    let row = built_in_votes(3);
+    assert_eq!(calls::open(&mut bytes[..short], 3, 8, [0; 8]), 16);
+    assert_eq!(calls::open(&mut bytes[..short], 3, 0, [0; 8]), 41);
+    assert_eq!(calls::open(&mut bytes[..short], 3, 0, row), 18);
     assert_eq!(bytes, vec![7; stored::LENGTH + 3]);
     assert_eq!(calls::step(&mut bytes, [12, 0, 0, 0], &mut answer), 11);
     assert_eq!(calls::step(&mut bytes, [1, 9, 0, 0], &mut answer), 31);
-    assert_eq!(calls::open(&mut bytes, 3, 0), 0);
+    assert_eq!(calls::open(&mut bytes, 3, 0, row), 0);
     assert_eq!(bytes[stored::LENGTH..], [7; 3]);
     let opened = bytes.clone();
     assert_eq!(

@@ -9,7 +9,7 @@ use std::env;
 use std::fs;
 use std::path::{Path, PathBuf};
 
-const LEAST: usize = 165;
+const LEAST: usize = 196;
 
 fn directory() -> PathBuf {
     let package = Path::new(env!("CARGO_MANIFEST_DIR"));
@@ -96,11 +96,11 @@ fn every_listing_has_its_run() {
 fn every_run_is_written_back() {
     for path in run_files() {
         let file = bytes_of(&path);
-        let Ok((n, founders, actions)) = read_run_file(&file) else {
+        let Ok((opening, actions)) = read_run_file(&file) else {
             continue;
         };
         let mut written = vec![0; file.len()];
-        let length = write_run_file(n, founders, &actions, &mut written).expect("it fits");
+        let length = write_run_file(opening, &actions, &mut written).expect("it fits");
         assert!(file.ends_with(&written[..length]), "{}", path.display());
     }
 }
