@@ -8,8 +8,9 @@
  *
  * All calls return HALL_OK, which is 0, or the number of a refusal (enum
  * hall_refusal). A refused call leaves every lent byte as it was. Where several
- * refusals fit, the first in the order 11, 31, 12 to 16, 32 to 40, 18 is given;
- * 19, of run files alone, comes before 16 in reading and after it in writing.
+ * refusals fit, the first in the order 11, 31, 12 to 16, 41, 32 to 40, 18 is
+ * given; 19, of run files alone, comes before 16 in reading and after 41 in
+ * writing.
  *
  * A lent slice is a pointer and the number of bytes from there on.
  *  - It may be longer than needed: what lies past the first HALL_LENGTH bytes
@@ -39,7 +40,7 @@ extern "C" {
 #endif
 
 /* Bytes of a hall. */
-#define HALL_LENGTH 59699
+#define HALL_LENGTH 59731
 
 /* Bytes of stack that suffice for any call: none but a step that receives the
  * last summary of an exchange takes 4,096, and that one takes more for each entry
@@ -55,6 +56,11 @@ extern "C" {
 /* A hall has 1 to HALL_RECORDERS recorders, numbered from 1. A set of recorders
  * is a mask with bit k - 1 for recorder k. */
 #define HALL_RECORDERS 8
+
+/* Votes of a recorder, at most. A hall keeps the votes it is opened with, one
+ * number for each of HALL_RECORDERS recorders: 0 for those it does not have, and
+ * not 0 for all. */
+#define HALL_MAX_VOTE 1000
 
 /* What a hall holds at most. An action that would pass such a limit is refused
  * with the number given. */
@@ -124,7 +130,7 @@ enum hall_page_word {
     HALL_PAGE_PHASE = 2,         /* enum hall_phase */
     HALL_PAGE_MARGIN = 3,        /* twice the votes of its set less the votes of the hall, above 0
                                     if the view is primary; without a view that of the empty set;
-                                    read by hall_signed */
+                                    from -8,000 to 8,000, read by hall_signed */
     HALL_PAGE_HIGHEST = 4,       /* highest primary, 0 for none */
     HALL_PAGE_ORDER_LENGTH = 5,  /* entries in the order, the common log */
     HALL_PAGE_BUFFER_LENGTH = 6, /* labelled entries not yet sent */
@@ -155,6 +161,8 @@ enum hall_refusal {
     HALL_REFUSED_OPENING = 16,     /* N is not 1 to 8, or founders above N */
     HALL_REFUSED_SHORT = 18,       /* the slice to write into is too short; given last */
     HALL_REFUSED_FILE = 19,        /* the file breaks a rule of run files, or too many actions */
+    HALL_REFUSED_VOTES = 41,       /* a vote above HALL_MAX_VOTE, a vote other than 0 for a
+                                      recorder above N, or all votes 0; given directly after 16 */
 
     /* Because of the state. */
     HALL_REFUSED_BYTES = 31,      /* the bytes are no hall's stored form, or too few */
@@ -174,12 +182,31 @@ enum hall_refusal {
 
 /*
  * Opens a hall of n recorders in the first HALL_LENGTH bytes of `hall`, with
- * the set `founders` as view 1; 0 means all recorders. What these bytes held
- * before does not matter.
+ * the set `founders` as view 1; 0 means all recorders. v1 to v8 are the votes of
+ * recorders 1 to 8. What these bytes held before does not matter.
  *
- * Returns HALL_OK; 16; or 18 if hall_len is below HALL_LENGTH.
+ * Returns HALL_OK; 16; 41; or 18 if hall_len is below HALL_LENGTH.
  */
-uint32_t hall_open(uint8_t *hall, size_t hall_len, uint32_t n, uint32_t founders);
+uint32_t hall_open(uint8_t *hall, size_t hall_len, uint32_t n, uint32_t founders, uint32_t v1,
+                   uint32_t v2, uint32_t v3, uint32_t v4, uint32_t v5, uint32_t v6, uint32_t v7,
+                   uint32_t v8);
+
+/* The same with the votes in a row, recorder 1 first. */
+static inline uint32_t hall_open_row(uint8_t *hall, size_t hall_len, uint32_t n, uint32_t founders,
+                                     const uint32_t votes[HALL_RECORDERS])
+{
+    return hall_open(hall, hall_len, n, founders, votes[0], votes[1], votes[2], votes[3], votes[4],
+                     votes[5], votes[6], votes[7]);
+}
+
+/* The same with the built-in row: 2 votes for recorder 1, 1 for each other one
+ * up to n. */
+static inline uint32_t hall_open_built_in(uint8_t *hall, size_t hall_len, uint32_t n,
+                                          uint32_t founders)
+{
+    return hall_open(hall, hall_len, n, founders, 2, n >= 2, n >= 3, n >= 4, n >= 5, n >= 6, n >= 7,
+                     n >= 8);
+}
 
 /*
  * Performs the action k, r, a, b and writes its answer into the first
@@ -227,12 +254,14 @@ static inline int32_t hall_signed(const uint8_t *words, size_t i)
  * one first, read by hall_offset.
  */
 
-/* Bytes and actions of a run file, at most. */
+/* Bytes and actions of a run file, at most; fewer actions with votes. */
 #define HALL_MAX_FILE 65536
 #define HALL_MAX_ACTIONS 4094
+#define HALL_MAX_ACTIONS_WITH_VOTES 4092
 
 /* Bytes of the opening block, of an action and of the trailer. A run of c
- * actions has HALL_RUN_BLOCK * (c + 2) bytes. */
+ * actions has HALL_RUN_BLOCK * (c + 2) bytes, one with votes
+ * HALL_RUN_BLOCK * (c + 4). */
 #define HALL_RUN_BLOCK 16
 
 /* Words of the opening of a run file. */
@@ -241,7 +270,10 @@ enum hall_run_word {
     HALL_RUN_FOUNDERS = 1,   /* the founders, 0 for all recorders */
     HALL_RUN_START = 2,      /* offset of the first action */
     HALL_RUN_START_HIGH = 3, /* its high word */
-    HALL_RUN_COUNT = 4       /* how many actions there are */
+    HALL_RUN_COUNT = 4,      /* how many actions there are */
+    HALL_RUN_THIRD = 5,      /* third word of the opening block: 1 if votes are given, 0 for the
+                                built-in row */
+    HALL_RUN_VOTES = 6       /* words 6 to 13: the votes of recorders 1 to 8, 0 if none are given */
 };
 
 /* Words of an action of a run file. At the end all but the first are 0. */
@@ -261,9 +293,10 @@ enum hall_written_word {
 };
 
 /*
- * Reads the opening of a run file.
+ * Reads the opening of a run file. A hall is opened by it with hall_open_built_in
+ * if word HALL_RUN_THIRD is 0, else with the votes.
  *
- * Returns HALL_OK; 19; 16; or 18 if words_len is below HALL_ANSWER_LENGTH.
+ * Returns HALL_OK; 19; 16; 41; or 18 if words_len is below HALL_ANSWER_LENGTH.
  */
 uint32_t hall_run_read(const uint8_t *file, size_t file_len, uint8_t *words, size_t words_len);
 
@@ -280,16 +313,40 @@ uint32_t hall_run_action(const uint8_t *file, size_t file_len, size_t at, uint8_
 
 /*
  * Writes a run of n recorders and the set `founders` at the start of `file`,
- * bytes after it stay. `actions` is actions_len words (not bytes), aligned as
- * uint32_t is: k, r, a, b of each action in turn. What is left of less than
- * four words is no action. The words of an action may be any.
+ * bytes after it stay. With `third` 1 it has the votes v1 to v8; with 0 it has
+ * the built-in row, and v1 to v8 are not looked at. `actions` is actions_len
+ * words (not bytes), aligned as uint32_t is: k, r, a, b of each action in turn.
+ * What is left of less than four words is no action. The words of an action may
+ * be any.
  *
- * Returns HALL_OK; 16; 19 for more than HALL_MAX_ACTIONS actions; or 18 if file_len
- * is below the run's length or words_len below HALL_ANSWER_LENGTH.
+ * Returns HALL_OK; 16; 41 with `third` 1; 19 for a `third` above 1, or more than
+ * HALL_MAX_ACTIONS actions, with votes HALL_MAX_ACTIONS_WITH_VOTES; or 18 if
+ * file_len is below the run's length or words_len below HALL_ANSWER_LENGTH.
  */
 uint32_t hall_run_write(uint8_t *file, size_t file_len, uint32_t n, uint32_t founders,
-                        const uint32_t *actions, size_t actions_len, uint8_t *words,
-                        size_t words_len);
+                        uint32_t third, uint32_t v1, uint32_t v2, uint32_t v3, uint32_t v4,
+                        uint32_t v5, uint32_t v6, uint32_t v7, uint32_t v8, const uint32_t *actions,
+                        size_t actions_len, uint8_t *words, size_t words_len);
+
+/* The same with votes in a row, recorder 1 first. */
+static inline uint32_t hall_run_write_row(uint8_t *file, size_t file_len, uint32_t n,
+                                          uint32_t founders, const uint32_t votes[HALL_RECORDERS],
+                                          const uint32_t *actions, size_t actions_len,
+                                          uint8_t *words, size_t words_len)
+{
+    return hall_run_write(file, file_len, n, founders, 1, votes[0], votes[1], votes[2], votes[3],
+                          votes[4], votes[5], votes[6], votes[7], actions, actions_len, words,
+                          words_len);
+}
+
+/* The same with the built-in row. */
+static inline uint32_t hall_run_write_built_in(uint8_t *file, size_t file_len, uint32_t n,
+                                               uint32_t founders, const uint32_t *actions,
+                                               size_t actions_len, uint8_t *words, size_t words_len)
+{
+    return hall_run_write(file, file_len, n, founders, 0, 0, 0, 0, 0, 0, 0, 0, 0, actions,
+                          actions_len, words, words_len);
+}
 
 /* The offset whose low word is word i. */
 static inline size_t hall_offset(const uint8_t *words, size_t i)
