@@ -1,11 +1,13 @@
 /*
  * The group page: a program to start from.
  *
- *     group_page [--record FILE] N FOUNDERS RECORDER < ACTIONS
+ *     group_page [--record FILE] N FOUNDERS RECORDER [V1 V2 V3 V4 V5 V6 V7 V8] < ACTIONS
  *
  * Opens a hall of N recorders. FOUNDERS is the set of the first view, a mask
- * with bit k - 1 for recorder k; 0 or the word `whole` is the whole hall. Then
- * takes actions from standard input and last shows the group page of RECORDER.
+ * with bit k - 1 for recorder k; 0 or the word `whole` is the whole hall. V1 to
+ * V8 are the votes of recorders 1 to 8, 0 above N; without them recorder 1 has 2
+ * votes and each other one 1. Then takes actions from standard input and last
+ * shows the group page of RECORDER.
  *
  * A line of the input is one of
  *     K R A B    an action: kind, recorder, two arguments, 0 where unused
@@ -17,7 +19,8 @@
  * hall, above 0 if the group is primary.
  *
  * With --record, FILE becomes a run file of the opening and all actions given,
- * refused ones too; ./replay FILE lists it.
+ * refused ones too; ./replay FILE lists it. It has votes just if they are given
+ * here.
  *
  * The exit status is 0, or 1 if a line is not understood, the opening or a page
  * is refused, the input cannot be read, or the output or FILE cannot be
@@ -40,6 +43,8 @@
 struct run {
     uint8_t hall[HALL_LENGTH];
     uint32_t n, founders;
+    int has_votes; /* whether votes were given; else the row is the built-in one */
+    uint32_t votes[HALL_RECORDERS];
     uint32_t actions[4 * HALL_MAX_ACTIONS]; /* the first of the actions given */
     unsigned long given;                    /* how many were given */
     uint8_t file[HALL_MAX_FILE];            /* room for the run file */
@@ -123,6 +128,8 @@ static const char *reason(uint32_t number, uint32_t kind)
         return "the new view has no member, or one that the hall does not have";
     case HALL_REFUSED_OPENING:
         return "a hall has 1 to 8 recorders, and its founders are among them";
+    case HALL_REFUSED_VOTES:
+        return "votes are 0 to 1000, 0 for a recorder that the hall does not have, and not 0 for all";
     case HALL_REFUSED_SHORT:
         return "the memory lent is too short";
     case HALL_REFUSED_BYTES:
@@ -399,17 +406,28 @@ static int write_file(const char *path, const uint8_t *bytes, size_t length)
     return well;
 }
 
+/* The run file of a run, in run->file. HALL_OK, or the number of a refusal. */
+static uint32_t make_record(struct run *run, uint8_t *words)
+{
+    if (run->has_votes) {
+        return hall_run_write_row(run->file, sizeof run->file, run->n, run->founders, run->votes, run->actions,
+                                  4 * run->given, words, HALL_ANSWER_LENGTH);
+    }
+    return hall_run_write_built_in(run->file, sizeof run->file, run->n, run->founders, run->actions,
+                                   4 * run->given, words, HALL_ANSWER_LENGTH);
+}
+
 /* Writes a run as a run file. Whether that went well. */
 static int write_record(struct run *run, const char *path)
 {
     uint8_t words[HALL_ANSWER_LENGTH];
-    if (run->given > HALL_MAX_ACTIONS) {
-        fprintf(stderr, "%s is not written: %lu actions were given, and a run file has %d at most\n", path,
-                run->given, HALL_MAX_ACTIONS);
+    unsigned long most = run->has_votes ? HALL_MAX_ACTIONS_WITH_VOTES : HALL_MAX_ACTIONS;
+    if (run->given > most) {
+        fprintf(stderr, "%s is not written: %lu actions were given, and a run file%s has %lu at most\n", path,
+                run->given, run->has_votes ? " with votes" : "", most);
         return 0;
     }
-    uint32_t number = hall_run_write(run->file, sizeof run->file, run->n, run->founders, run->actions,
-                                     4 * run->given, words, sizeof words);
+    uint32_t number = make_record(run, words);
     if (number != HALL_OK) {
         fprintf(stderr, "%s is not written (%" PRIu32 "): %s\n", path, number, reason(number, 0));
         return 0;
@@ -428,10 +446,19 @@ static int take_founders(const char *text, uint32_t *founders)
     return take_numbers(text, founders, 1);
 }
 
+/* Opens the hall. HALL_OK, or the number of a refusal. */
+static uint32_t open_hall(struct run *run)
+{
+    if (run->has_votes) {
+        return hall_open_row(run->hall, HALL_LENGTH, run->n, run->founders, run->votes);
+    }
+    return hall_open_built_in(run->hall, HALL_LENGTH, run->n, run->founders);
+}
+
 /* Opens the hall, takes the input and shows the page. Whether all went well. */
 static int perform(struct run *run, uint32_t recorder, const char *record)
 {
-    uint32_t number = hall_open(run->hall, HALL_LENGTH, run->n, run->founders);
+    uint32_t number = open_hall(run);
     if (number != HALL_OK) {
         printf("opening refused (%" PRIu32 "): %s\n", number, reason(number, 0));
         return 0;
@@ -452,31 +479,53 @@ static int end_output(void)
     return 0;
 }
 
+/* Takes all votes, or none where there are no words. Whether that went well. */
+static int take_votes(int words, char **texts, struct run *run)
+{
+    run->has_votes = words != 0;
+    if (words != 0 && words != HALL_RECORDERS) {
+        return 0;
+    }
+    for (int i = 0; i < words; i++) {
+        if (!take_numbers(texts[i], &run->votes[i], 1)) {
+            return 0;
+        }
+    }
+    return 1;
+}
+
+/* Takes N, FOUNDERS, RECORDER and the votes. Whether that went well. */
+static int take_opening(int words, char **texts, struct run *run, uint32_t *recorder)
+{
+    return words >= 3 && take_numbers(texts[0], &run->n, 1) && take_founders(texts[1], &run->founders) &&
+           take_numbers(texts[2], recorder, 1) && take_votes(words - 3, texts + 3, run);
+}
+
 int main(int argc, char **argv)
 {
     const char *record = NULL;
-    uint32_t n, founders, recorder;
-    if (argc == 6 && strcmp(argv[1], "--record") == 0) {
+    uint32_t recorder;
+    int status = 2;
+    struct run *run = malloc(sizeof *run);
+    if (!run) {
+        fputs("no memory\n", stderr);
+        return status;
+    }
+    if (argc >= 3 && strcmp(argv[1], "--record") == 0) {
         record = argv[2];
         argv += 2;
         argc -= 2;
     }
-    if (argc != 4 || !take_numbers(argv[1], &n, 1) || !take_founders(argv[2], &founders) ||
-        !take_numbers(argv[3], &recorder, 1)) {
-        fputs("usage: group_page [--record FILE] N FOUNDERS RECORDER < ACTIONS\n"
-              "FOUNDERS is a mask with bit k - 1 for recorder k; 0 or the word whole is the whole hall\n",
+    if (take_opening(argc - 1, argv + 1, run, &recorder)) {
+        run->given = 0;
+        int well = perform(run, recorder, record);
+        status = end_output() && well ? 0 : 1;
+    } else {
+        fputs("usage: group_page [--record FILE] N FOUNDERS RECORDER [V1 V2 V3 V4 V5 V6 V7 V8] < ACTIONS\n"
+              "FOUNDERS is a mask with bit k - 1 for recorder k; 0 or the word whole is the whole hall\n"
+              "V1 to V8 are the votes of recorders 1 to 8; without them recorder 1 has 2 and each other one 1\n",
               stderr);
-        return 2;
     }
-    struct run *run = malloc(sizeof *run);
-    if (!run) {
-        fputs("no memory\n", stderr);
-        return 2;
-    }
-    run->n = n;
-    run->founders = founders;
-    run->given = 0;
-    int well = perform(run, recorder, record);
     free(run);
-    return end_output() && well ? 0 : 1;
+    return status;
 }

@@ -1,8 +1,9 @@
 /*
  * Opens a hall, takes the steps of the bench card "the listing" and reads
  * pages, and checks every value that comes back. Goes through views with great
- * numbers. Reads the margins of opened halls. Writes and reads run files. Then
- * refused calls, each of which must leave all lent bytes as they were.
+ * numbers. Reads the margins of opened halls, with the built-in row and with
+ * votes. Writes and reads run files, with votes and without. Then refused calls,
+ * each of which must leave all lent bytes as they were.
  *
  * Each lent slice is allocated by itself with just the length that is lent, so
  * that a memory checker sees any access outside it.
@@ -143,7 +144,7 @@ static void listing_card(void)
     const uint32_t last[] = {1, 1, HALL_PHASE_NORMAL, 2, 1, 1, 0, 2, 2, 1, 1, 1, 700};
     uint8_t *hall = filled(HALL_LENGTH, 0x5a);
 
-    CHECK(hall_open(hall, HALL_LENGTH, 1, 1) == 0);
+    CHECK(hall_open_built_in(hall, HALL_LENGTH, 1, 1) == 0);
     CHECK(page_gives(hall, 1, 0, opened, 9));
     CHECK(step_is_done(hall, HALL_SUBMIT, 1, 700));
     CHECK(page_gives(hall, 1, 0, opened, 9));
@@ -171,7 +172,7 @@ static void second_view(void)
     const uint32_t complete[] = {2, 2, HALL_PHASE_NORMAL, (uint32_t)-2, 1, 0, 0, 1, 1};
     uint8_t *hall = filled(HALL_LENGTH, 0);
 
-    CHECK(hall_open(hall, HALL_LENGTH, 3, 3) == 0);
+    CHECK(hall_open_built_in(hall, HALL_LENGTH, 3, 3) == 0);
     CHECK(page_gives(hall, 3, 0, outside, 9));
     CHECK(view_is_formed(hall, 2, 2));
     CHECK(step_refused(hall, HALL_FORM, 0, 2, 2, HALL_REFUSED_NOT_RISING));
@@ -201,7 +202,7 @@ static void view_numbers(void)
     const uint32_t received[] = {last, 1, HALL_PHASE_NORMAL, 2, last, 1, 0, 1, 1, last, 1, 1, 5};
     uint8_t *hall = filled(HALL_LENGTH, 0);
 
-    CHECK(hall_open(hall, HALL_LENGTH, 1, 1) == 0);
+    CHECK(hall_open_built_in(hall, HALL_LENGTH, 1, 1) == 0);
     for (size_t i = 0; i < 3; i++) {
         const uint32_t entered[] = {numbers[i], 1, HALL_PHASE_SEND, 2, 1, 0, 0, 1, 1};
         CHECK(step_refused(hall, HALL_ENTER, 1, numbers[i], 0, HALL_REFUSED_NOT_FORMED));
@@ -234,7 +235,7 @@ static void longest_order(void)
     const uint32_t healed[] = {2, 6, HALL_PHASE_NORMAL, 0, 1, 1, 0, 1, 1, 1, 1, 2, 700};
     uint8_t *hall = filled(HALL_LENGTH, 0);
 
-    CHECK(hall_open(hall, HALL_LENGTH, 3, 7) == 0);
+    CHECK(hall_open_built_in(hall, HALL_LENGTH, 3, 7) == 0);
     CHECK(step_is_done(hall, HALL_SUBMIT, 2, 700));
     CHECK(step_is_done(hall, HALL_LABEL, 2, 0));
     CHECK(step_is_done(hall, HALL_SEND_ENTRY, 2, 0));
@@ -260,7 +261,7 @@ static int margin_is(uint32_t n, uint32_t founders, uint32_t r, int32_t wanted)
 {
     uint8_t *hall = filled(HALL_LENGTH, 0);
     uint8_t *page = filled(HALL_ANSWER_LENGTH, 0xa5);
-    int ok = hall_open(hall, HALL_LENGTH, n, founders) == 0 &&
+    int ok = hall_open_built_in(hall, HALL_LENGTH, n, founders) == 0 &&
              hall_page(hall, HALL_LENGTH, r, 0, page, HALL_ANSWER_LENGTH) == 0 &&
              hall_signed(page, HALL_PAGE_MARGIN) == wanted;
     free(page);
@@ -277,6 +278,139 @@ static void margins(void)
     CHECK(margin_is(3, 3, 3, -4));
     CHECK(margin_is(4, 14, 2, 1));
     CHECK(margin_is(4, 12, 3, -1));
+}
+
+/* Votes for the control room and the yard. */
+static const uint32_t site[HALL_RECORDERS] = {5, 3, 3};
+
+/* Whether recorder r of a hall of three just opened with these votes has this
+ * margin. */
+static int site_margin_is(uint32_t founders, uint32_t r, int32_t wanted)
+{
+    uint8_t *hall = filled(HALL_LENGTH, 0);
+    uint8_t *page = filled(HALL_ANSWER_LENGTH, 0xa5);
+    int ok = hall_open_row(hall, HALL_LENGTH, 3, founders, site) == 0 &&
+             hall_page(hall, HALL_LENGTH, r, 0, page, HALL_ANSWER_LENGTH) == 0 &&
+             hall_signed(page, HALL_PAGE_MARGIN) == wanted;
+    free(page);
+    free(hall);
+    return ok;
+}
+
+static void margins_of_votes(void)
+{
+    CHECK(site_margin_is(6, 2, 1));
+    CHECK(site_margin_is(3, 1, 5));
+    CHECK(site_margin_is(1, 1, -1));
+    CHECK(site_margin_is(1, 2, -11));
+    CHECK(site_margin_is(7, 3, 11));
+}
+
+/* The yard without the control room: {2, 3} is primary, so that an entry goes
+ * all the way there. */
+static void primary_by_votes(void)
+{
+    const uint32_t entry[] = {HALL_CASE_ENTRY, 2, 1, 1, 2, 700};
+    const uint32_t from[] = {HALL_CASE_FROM, 2, 700};
+    const uint32_t received[] = {1, 6, HALL_PHASE_NORMAL, 1, 1, 1, 0, 1, 1, 1, 1, 2, 700};
+    uint8_t *hall = filled(HALL_LENGTH, 0);
+
+    CHECK(hall_open(hall, HALL_LENGTH, 3, 6, 5, 3, 3, 0, 0, 0, 0, 0) == 0);
+    CHECK(step_is_done(hall, HALL_SUBMIT, 2, 700));
+    CHECK(step_is_done(hall, HALL_LABEL, 2, 0));
+    CHECK(step_is_done(hall, HALL_SEND_ENTRY, 2, 0));
+    CHECK(step_is_done(hall, HALL_PLACE, 2, 1));
+    CHECK(step_gives(hall, HALL_RECEIVE, 2, 0, entry, 6));
+    CHECK(page_gives(hall, 2, 1, received, 13));
+    CHECK(step_gives(hall, HALL_RECEIVE, 3, 0, entry, 6));
+    CHECK(step_gives(hall, HALL_SAFE, 2, 0, entry, 6));
+    CHECK(step_is_done(hall, HALL_CONFIRM, 2, 0));
+    CHECK(step_gives(hall, HALL_DELIVER, 2, 0, from, 3));
+    free(hall);
+}
+
+/* The three ways to open a hall with the built-in row give the same bytes. */
+static void built_in_votes(void)
+{
+    static const uint32_t row[HALL_RECORDERS] = {2, 1, 1, 1, 1, 1, 1, 1};
+    uint8_t *one = filled(HALL_LENGTH, 0x5a);
+    uint8_t *other = filled(HALL_LENGTH, 0xa5);
+    for (uint32_t n = 1; n <= HALL_RECORDERS; n++) {
+        uint32_t votes[HALL_RECORDERS] = {0};
+        memcpy(votes, row, n * sizeof *row);
+        CHECK(hall_open_built_in(one, HALL_LENGTH, n, 0) == 0);
+        CHECK(hall_open_row(other, HALL_LENGTH, n, 0, votes) == 0);
+        CHECK(memcmp(one, other, HALL_LENGTH) == 0);
+        CHECK(hall_open(other, HALL_LENGTH, n, 0, votes[0], votes[1], votes[2], votes[3], votes[4], votes[5],
+                        votes[6], votes[7]) == 0);
+        CHECK(memcmp(one, other, HALL_LENGTH) == 0);
+    }
+    free(other);
+    free(one);
+}
+
+/* Whether an opening with one vote changed gives a number, and leaves a slice
+ * that it refuses. */
+static int opening_gives(uint32_t n, uint32_t founders, size_t place, uint32_t vote, size_t length,
+                         uint32_t wanted)
+{
+    uint32_t votes[HALL_RECORDERS] = {0};
+    uint8_t *hall = filled(length, 0x5a);
+    votes[0] = 1;
+    votes[place] = vote;
+    uint32_t number = hall_open_row(hall, length, n, founders, votes);
+    int ok = number == wanted && (number == 0 || holds_only(hall, 0, length, 0x5a));
+    free(hall);
+    return ok;
+}
+
+/* 41 in all its cases: a vote above 1,000, one above N, all votes 0. It stands
+ * between 16 and 18. */
+static void refused_votes(void)
+{
+    const uint32_t most = HALL_MAX_VOTE;
+    for (uint32_t n = 1; n <= HALL_RECORDERS; n++) {
+        CHECK(opening_gives(n, 0, 0, 0, HALL_LENGTH, HALL_REFUSED_VOTES));
+        CHECK(opening_gives(n, 0, n - 1, most, HALL_LENGTH, HALL_OK));
+        CHECK(opening_gives(n, 0, n - 1, most + 1, HALL_LENGTH, HALL_REFUSED_VOTES));
+        CHECK(opening_gives(n, 0, n - 1, UINT32_MAX, HALL_LENGTH, HALL_REFUSED_VOTES));
+        if (n < HALL_RECORDERS) {
+            CHECK(opening_gives(n, 0, n, 0, HALL_LENGTH, HALL_OK));
+            CHECK(opening_gives(n, 0, n, 1, HALL_LENGTH, HALL_REFUSED_VOTES));
+            CHECK(opening_gives(n, 0, HALL_RECORDERS - 1, 1, HALL_LENGTH, HALL_REFUSED_VOTES));
+        }
+        CHECK(opening_gives(n, 1u << n, 0, 0, HALL_LENGTH, HALL_REFUSED_OPENING));
+        CHECK(opening_gives(n, 0, 0, 0, HALL_LENGTH - 1, HALL_REFUSED_VOTES));
+        CHECK(opening_gives(n, 0, 0, 1, HALL_LENGTH - 1, HALL_REFUSED_SHORT));
+    }
+    CHECK(opening_gives(0, 0, 0, 0, HALL_LENGTH, HALL_REFUSED_OPENING));
+    CHECK(opening_gives(9, 0, 0, most + 1, HALL_LENGTH, HALL_REFUSED_OPENING));
+}
+
+/* Votes in a stored hall, which stand at its end: what 41 would refuse is 31. */
+static void stored_votes(void)
+{
+    const size_t votes = HALL_LENGTH - 4 * HALL_RECORDERS;
+    uint8_t *hall = filled(HALL_LENGTH, 0);
+
+    CHECK(hall_open_row(hall, HALL_LENGTH, 3, 0, site) == 0);
+    for (size_t i = 0; i < HALL_RECORDERS; i++) {
+        CHECK(hall_word(hall + votes, i) == site[i]);
+    }
+    hall[votes] = 0xe8;
+    hall[votes + 1] = 3;
+    CHECK(step_is_done(hall, HALL_SUBMIT, 1, 5));
+    hall[votes] = 0xe9;
+    CHECK(step_refused(hall, HALL_SUBMIT, 1, 5, 0, HALL_REFUSED_BYTES));
+    CHECK(page_refused(hall, HALL_LENGTH, 1, 0, HALL_ANSWER_LENGTH, HALL_REFUSED_BYTES));
+    hall[votes + 1] = 0;
+    hall[votes + 4 * 3] = 1;
+    CHECK(step_refused(hall, HALL_SUBMIT, 1, 5, 0, HALL_REFUSED_BYTES));
+    memset(hall + votes, 0, 4 * HALL_RECORDERS);
+    CHECK(step_refused(hall, HALL_SUBMIT, 1, 5, 0, HALL_REFUSED_BYTES));
+    hall[votes + 4 * 2] = 1;
+    CHECK(step_is_done(hall, HALL_SUBMIT, 1, 5));
+    free(hall);
 }
 
 /* Words of either sign, at both ends of their range. */
@@ -303,19 +437,19 @@ static void refused_calls(void)
     uint8_t *shorter = filled(HALL_LENGTH - 1, 0);
     uint8_t *none = filled(0, 0);
 
-    CHECK(hall_open(hall, HALL_LENGTH, 0, 0) == HALL_REFUSED_OPENING);
-    CHECK(hall_open(hall, HALL_LENGTH, 9, 0) == HALL_REFUSED_OPENING);
-    CHECK(hall_open(hall, HALL_LENGTH, 3, 8) == HALL_REFUSED_OPENING);
-    CHECK(hall_open(hall, HALL_LENGTH - 1, 3, 8) == HALL_REFUSED_OPENING);
-    CHECK(hall_open(hall, HALL_LENGTH - 1, 3, 0) == HALL_REFUSED_SHORT);
-    CHECK(hall_open(none, 0, 3, 0) == HALL_REFUSED_SHORT);
+    CHECK(hall_open_built_in(hall, HALL_LENGTH, 0, 0) == HALL_REFUSED_OPENING);
+    CHECK(hall_open_built_in(hall, HALL_LENGTH, 9, 0) == HALL_REFUSED_OPENING);
+    CHECK(hall_open_built_in(hall, HALL_LENGTH, 3, 8) == HALL_REFUSED_OPENING);
+    CHECK(hall_open_built_in(hall, HALL_LENGTH - 1, 3, 8) == HALL_REFUSED_OPENING);
+    CHECK(hall_open_built_in(hall, HALL_LENGTH - 1, 3, 0) == HALL_REFUSED_SHORT);
+    CHECK(hall_open_built_in(none, 0, 3, 0) == HALL_REFUSED_SHORT);
     CHECK(holds_only(hall, 0, HALL_LENGTH, 0x5a));
 
     CHECK(step_refused(hall, 12, 0, 0, 0, HALL_REFUSED_KIND));
     CHECK(step_refused(hall, HALL_ENTER, 9, 0, 0, HALL_REFUSED_BYTES));
     CHECK(page_refused(hall, HALL_LENGTH, 9, 0, 0, HALL_REFUSED_BYTES));
 
-    CHECK(hall_open(hall, HALL_LENGTH, 8, 0) == 0);
+    CHECK(hall_open_built_in(hall, HALL_LENGTH, 8, 0) == 0);
     CHECK(step_refused(hall, 0, 1, 0, 0, HALL_REFUSED_KIND));
     CHECK(step_refused(hall, HALL_ENTER, 9, 0, 0, HALL_REFUSED_RECORDER));
     CHECK(step_refused(hall, HALL_LABEL, 1, 0, 1, HALL_REFUSED_UNUSED));
@@ -348,7 +482,7 @@ static void longer_slices(void)
     uint8_t *hall = filled(HALL_LENGTH + rest, 0xa5);
     uint8_t *answer = filled(HALL_ANSWER_LENGTH + rest, 0xa5);
 
-    CHECK(hall_open(hall, HALL_LENGTH + rest, 2, 0) == 0);
+    CHECK(hall_open_built_in(hall, HALL_LENGTH + rest, 2, 0) == 0);
     CHECK(hall_step(hall, HALL_LENGTH + rest, HALL_SUBMIT, 2, 5, 0, answer, HALL_ANSWER_LENGTH + rest) == 0);
     CHECK(words_are(answer, rest, done, 1));
     CHECK(holds_only(hall, HALL_LENGTH, HALL_LENGTH + rest, 0xa5));
@@ -369,7 +503,7 @@ static uint8_t *run_file(void)
     uint8_t *words = filled(HALL_ANSWER_LENGTH, 0xa5);
     const uint32_t length[] = {RUN_LENGTH};
 
-    CHECK(hall_run_write(file, RUN_LENGTH, 1, 1, run_actions, 8, words, HALL_ANSWER_LENGTH) == 0);
+    CHECK(hall_run_write_built_in(file, RUN_LENGTH, 1, 1, run_actions, 8, words, HALL_ANSWER_LENGTH) == 0);
     CHECK(words_are(words, 0, length, 1));
     free(words);
     return file;
@@ -410,7 +544,9 @@ static void run_files(void)
     CHECK(action_gives(file, SIZE_MAX, end, 1));
 
     /* The run, taken action by action. */
-    CHECK(hall_open(hall, HALL_LENGTH, hall_word(words, HALL_RUN_SIZE), hall_word(words, HALL_RUN_FOUNDERS)) == 0);
+    CHECK(hall_word(words, HALL_RUN_THIRD) == 0);
+    CHECK(hall_open_built_in(hall, HALL_LENGTH, hall_word(words, HALL_RUN_SIZE),
+                             hall_word(words, HALL_RUN_FOUNDERS)) == 0);
     size_t at = hall_offset(words, HALL_RUN_START);
     uint32_t count = hall_word(words, HALL_RUN_COUNT);
     uint32_t taken = 0;
@@ -450,20 +586,165 @@ static void refused_run_files(void)
     CHECK(hall_run_read(file, RUN_LENGTH, none, 0) == HALL_REFUSED_OPENING);
     file[8] = before[8] = 1;
     CHECK(hall_run_read(file, RUN_LENGTH, words, most) == HALL_REFUSED_FILE);
+    file[8] = before[8] = 2;
+    CHECK(hall_run_read(file, RUN_LENGTH, words, most) == HALL_REFUSED_FILE);
     CHECK(hall_run_action(file, RUN_LENGTH, 16, words, most - 1) == HALL_REFUSED_SHORT);
     CHECK(hall_run_action(none, 0, 0, none, 0) == HALL_REFUSED_SHORT);
 
-    CHECK(hall_run_write(file, RUN_LENGTH, 9, 0, actions, many, none, 0) == HALL_REFUSED_OPENING);
-    CHECK(hall_run_write(file, RUN_LENGTH, 8, 0, actions, many, none, 0) == HALL_REFUSED_FILE);
-    CHECK(hall_run_write(file, RUN_LENGTH, 8, 0, actions, 8, words, most - 1) == HALL_REFUSED_SHORT);
-    CHECK(hall_run_write(file, RUN_LENGTH - 1, 8, 0, actions, 8, words, most) == HALL_REFUSED_SHORT);
-    CHECK(hall_run_write(none, 0, 8, 0, actions, 0, words, most) == HALL_REFUSED_SHORT);
+    CHECK(hall_run_write_built_in(file, RUN_LENGTH, 9, 0, actions, many, none, 0) == HALL_REFUSED_OPENING);
+    CHECK(hall_run_write_built_in(file, RUN_LENGTH, 8, 0, actions, many, none, 0) == HALL_REFUSED_FILE);
+    CHECK(hall_run_write_built_in(file, RUN_LENGTH, 8, 0, actions, 8, words, most - 1) == HALL_REFUSED_SHORT);
+    CHECK(hall_run_write_built_in(file, RUN_LENGTH - 1, 8, 0, actions, 8, words, most) == HALL_REFUSED_SHORT);
+    CHECK(hall_run_write_built_in(none, 0, 8, 0, actions, 0, words, most) == HALL_REFUSED_SHORT);
     CHECK(holds_only(words, 0, most, 0xa5));
     CHECK(memcmp(file, before, RUN_LENGTH) == 0);
     free(actions);
     free(none);
     free(words);
     free(before);
+    free(file);
+}
+
+/* The same run with votes. */
+enum { VOTES_LENGTH = RUN_LENGTH + 2 * HALL_RUN_BLOCK };
+
+static const uint32_t run_votes[HALL_RECORDERS] = {HALL_MAX_VOTE};
+
+/* Writes that run with any third word and votes into a slice. */
+static uint32_t write_votes(uint8_t *file, size_t length, uint32_t n, uint32_t third, const uint32_t *votes,
+                            size_t count, uint8_t *words, size_t words_len)
+{
+    static const uint32_t actions[4 * (HALL_MAX_ACTIONS + 1)] = {HALL_SUBMIT, 1, 700, 0, HALL_LABEL, 1, 0, 0};
+    return hall_run_write(file, length, n, 1, third, votes[0], votes[1], votes[2], votes[3], votes[4], votes[5],
+                          votes[6], votes[7], actions, 4 * count, words, words_len);
+}
+
+static void run_files_with_votes(void)
+{
+    static const uint8_t bytes[VOTES_LENGTH] = {
+        1,    0, 0, 0, 1, 0, 0, 0, 1,    0, 0, 0, 0, 0, 0, 0,
+        0xe8, 3, 0, 0, 0, 0, 0, 0, 0,    0, 0, 0, 0, 0, 0, 0,
+        0,    0, 0, 0, 0, 0, 0, 0, 0,    0, 0, 0, 0, 0, 0, 0,
+        1,    0, 0, 0, 1, 0, 0, 0, 0xbc, 2, 0, 0, 0, 0, 0, 0,
+        2,    0, 0, 0, 1, 0, 0, 0, 0,    0, 0, 0, 0, 0, 0, 0,
+        0x60, 0, 0, 0, 2, 0, 0, 0, 0,    0, 0, 0, 0, 0, 0, 0};
+    const uint32_t opening[] = {1, 1, 48, 0, 2, 1, HALL_MAX_VOTE};
+    const uint32_t later[] = {1, 1, 48 + 7, 0, 2, 1, HALL_MAX_VOTE};
+    const uint32_t length[] = {VOTES_LENGTH};
+    uint8_t *file = filled(VOTES_LENGTH + 7, 0xa5);
+    uint8_t *words = filled(HALL_ANSWER_LENGTH, 0xa5);
+
+    CHECK(hall_run_write_row(file + 7, VOTES_LENGTH, 1, 1, run_votes, run_actions, 8, words,
+                             HALL_ANSWER_LENGTH) == 0);
+    CHECK(words_are(words, 0, length, 1));
+    CHECK(memcmp(file + 7, bytes, VOTES_LENGTH) == 0);
+    CHECK(hall_run_read(file + 7, VOTES_LENGTH, words, HALL_ANSWER_LENGTH) == 0);
+    CHECK(words_are(words, 0, opening, 7));
+    CHECK(hall_run_read(file, VOTES_LENGTH + 7, words, HALL_ANSWER_LENGTH) == 0);
+    CHECK(words_are(words, 0, later, 7));
+    CHECK(hall_run_action(file, VOTES_LENGTH + 7, 48 + 7, words, HALL_ANSWER_LENGTH) == 0);
+    CHECK(hall_word(words, HALL_ACTION_K) == HALL_SUBMIT && hall_word(words, HALL_ACTION_A) == 700);
+    free(words);
+    free(file);
+}
+
+/* With third word 0 the votes may be any: they are neither checked nor written,
+ * and read back as 0. */
+static void votes_not_written(void)
+{
+    static const uint32_t wrong[HALL_RECORDERS] = {1, 2, 3, 4, 5, 6, 7, UINT32_MAX};
+    const uint32_t opening[] = {1, 1, 16, 0, 2};
+    uint8_t *file = run_file();
+    uint8_t *written = filled(RUN_LENGTH, 0xa5);
+    uint8_t *words = filled(HALL_ANSWER_LENGTH, 0xa5);
+
+    CHECK(write_votes(written, RUN_LENGTH, 1, 0, wrong, 2, words, HALL_ANSWER_LENGTH) == 0);
+    CHECK(memcmp(file, written, RUN_LENGTH) == 0);
+    CHECK(hall_run_read(written, RUN_LENGTH, words, HALL_ANSWER_LENGTH) == 0);
+    CHECK(words_are(words, 0, opening, 5));
+    free(words);
+    free(written);
+    free(file);
+}
+
+/* Writing: 16, 41, 19, 18; with a third word above 1 the votes are not looked
+ * at. */
+static void refused_votes_to_write(void)
+{
+    static const uint32_t none_voted[HALL_RECORDERS] = {0};
+    static const uint32_t above[HALL_RECORDERS] = {1, 1};
+    static const uint32_t over[HALL_RECORDERS] = {HALL_MAX_VOTE + 1};
+    const size_t many = HALL_MAX_ACTIONS_WITH_VOTES + 1;
+    const size_t most = HALL_ANSWER_LENGTH;
+    uint8_t *file = filled(VOTES_LENGTH, 0x5a);
+    uint8_t *words = filled(most, 0xa5);
+    uint8_t *none = filled(0, 0);
+
+    CHECK(write_votes(none, 0, 9, 1, over, many, none, 0) == HALL_REFUSED_OPENING);
+    CHECK(write_votes(none, 0, 1, 1, over, many, none, 0) == HALL_REFUSED_VOTES);
+    CHECK(write_votes(none, 0, 1, 1, above, many, none, 0) == HALL_REFUSED_VOTES);
+    CHECK(write_votes(none, 0, 1, 1, none_voted, many, none, 0) == HALL_REFUSED_VOTES);
+    CHECK(write_votes(none, 0, 1, 1, run_votes, many, none, 0) == HALL_REFUSED_FILE);
+    CHECK(write_votes(none, 0, 9, 2, over, 2, none, 0) == HALL_REFUSED_OPENING);
+    CHECK(write_votes(none, 0, 1, 2, over, 2, none, 0) == HALL_REFUSED_FILE);
+    CHECK(write_votes(file, VOTES_LENGTH, 1, UINT32_MAX, run_votes, 2, words, most) == HALL_REFUSED_FILE);
+    CHECK(write_votes(file, VOTES_LENGTH - 1, 1, 1, run_votes, 2, words, most) == HALL_REFUSED_SHORT);
+    CHECK(write_votes(file, VOTES_LENGTH, 1, 1, run_votes, 2, words, most - 1) == HALL_REFUSED_SHORT);
+    CHECK(holds_only(file, 0, VOTES_LENGTH, 0x5a));
+    CHECK(holds_only(words, 0, most, 0xa5));
+    CHECK(write_votes(file, VOTES_LENGTH, 2, 1, above, 2, words, most) == 0);
+    free(none);
+    free(words);
+    free(file);
+}
+
+/* Reading: 19, 16, 41. */
+static void refused_votes_to_read(void)
+{
+    const size_t votes = HALL_RUN_BLOCK;
+    uint8_t *file = filled(VOTES_LENGTH, 0x5a);
+    uint8_t *words = filled(HALL_ANSWER_LENGTH, 0xa5);
+    uint8_t *none = filled(0, 0);
+
+    CHECK(write_votes(file, VOTES_LENGTH, 1, 1, run_votes, 2, words, HALL_ANSWER_LENGTH) == 0);
+    memset(words, 0xa5, HALL_ANSWER_LENGTH);
+    CHECK(hall_run_read(file, VOTES_LENGTH, none, 0) == HALL_REFUSED_SHORT);
+    file[votes]++; /* 1,001 */
+    CHECK(hall_run_read(file, VOTES_LENGTH, none, 0) == HALL_REFUSED_VOTES);
+    file[votes] = file[votes + 1] = 0; /* all 0 */
+    CHECK(hall_run_read(file, VOTES_LENGTH, words, HALL_ANSWER_LENGTH) == HALL_REFUSED_VOTES);
+    file[votes] = file[votes + 4] = 1; /* a recorder above N */
+    CHECK(hall_run_read(file, VOTES_LENGTH, words, HALL_ANSWER_LENGTH) == HALL_REFUSED_VOTES);
+    file[0] = 9;
+    CHECK(hall_run_read(file, VOTES_LENGTH, words, HALL_ANSWER_LENGTH) == HALL_REFUSED_OPENING);
+    file[8] = 0; /* the length of a run with votes */
+    CHECK(hall_run_read(file, VOTES_LENGTH, words, HALL_ANSWER_LENGTH) == HALL_REFUSED_FILE);
+    file[8] = 2;
+    CHECK(hall_run_read(file, VOTES_LENGTH, words, HALL_ANSWER_LENGTH) == HALL_REFUSED_FILE);
+    file[0] = file[8] = 1;
+    file[VOTES_LENGTH - 12] = 4; /* the length of a run without votes */
+    CHECK(hall_run_read(file, VOTES_LENGTH, words, HALL_ANSWER_LENGTH) == HALL_REFUSED_FILE);
+    CHECK(holds_only(words, 0, HALL_ANSWER_LENGTH, 0xa5));
+    free(none);
+    free(words);
+    free(file);
+}
+
+/* The longest run with votes, in a longer slice. */
+static void longest_run_with_votes(void)
+{
+    const uint32_t length[] = {HALL_MAX_FILE};
+    uint8_t *file = filled(HALL_MAX_FILE + 9, 0xa5);
+    uint8_t *words = filled(HALL_ANSWER_LENGTH, 0xa5);
+
+    CHECK(write_votes(file, HALL_MAX_FILE + 9, 1, 1, run_votes, HALL_MAX_ACTIONS_WITH_VOTES, words,
+                      HALL_ANSWER_LENGTH) == 0);
+    CHECK(words_are(words, 0, length, 1));
+    CHECK(holds_only(file, HALL_MAX_FILE, HALL_MAX_FILE + 9, 0xa5));
+    CHECK(hall_run_read(file, HALL_MAX_FILE, words, HALL_ANSWER_LENGTH) == 0);
+    CHECK(hall_word(words, HALL_RUN_COUNT) == HALL_MAX_ACTIONS_WITH_VOTES);
+    CHECK(hall_word(words, HALL_RUN_VOTES) == HALL_MAX_VOTE);
+    free(words);
     free(file);
 }
 
@@ -480,7 +761,8 @@ static void longest_run(void)
         exit(2);
     }
 
-    CHECK(hall_run_write(file, HALL_MAX_FILE + 9, 8, 0, actions, count + 3, words, HALL_ANSWER_LENGTH) == 0);
+    CHECK(hall_run_write_built_in(file, HALL_MAX_FILE + 9, 8, 0, actions, count + 3, words,
+                                  HALL_ANSWER_LENGTH) == 0);
     CHECK(words_are(words, 0, length, 1));
     CHECK(holds_only(file, HALL_MAX_FILE, HALL_MAX_FILE + 9, 0xa5));
     CHECK(hall_run_read(file, HALL_MAX_FILE, words, HALL_ANSWER_LENGTH) == 0);
@@ -497,12 +779,22 @@ int main(void)
     view_numbers();
     longest_order();
     margins();
+    margins_of_votes();
+    primary_by_votes();
+    built_in_votes();
+    refused_votes();
+    stored_votes();
     signed_words();
     refused_calls();
     longer_slices();
     run_files();
     refused_run_files();
     longest_run();
+    run_files_with_votes();
+    votes_not_written();
+    refused_votes_to_write();
+    refused_votes_to_read();
+    longest_run_with_votes();
     printf("%u passed, %u failed\n", passed, failed);
     return failed != 0;
 }

@@ -32,7 +32,7 @@ static uint32_t number;
 
 static void open_hall(void)
 {
-    number = hall_open(hall, sizeof hall, 1, 1);
+    number = hall_open_built_in(hall, sizeof hall, 1, 1);
 }
 
 static void take_step(void)
@@ -45,9 +45,22 @@ static void read_page(void)
     number = hall_page(hall, sizeof hall, 1, HALL_MAX_ORDER, answer, sizeof answer);
 }
 
+static const uint32_t votes[HALL_RECORDERS] = {5, 3, 3, 1, 1, 1, 1, 1};
+
+static void open_row(void)
+{
+    number = hall_open_row(hall, sizeof hall, 8, 0, votes);
+}
+
+static void write_votes(void)
+{
+    number = hall_run_write_row(file, sizeof file, 8, 0, votes, actions, 4 * HALL_MAX_ACTIONS_WITH_VOTES, answer,
+                                sizeof answer);
+}
+
 static void write_run(void)
 {
-    number = hall_run_write(file, sizeof file, 8, 0, actions, 4 * HALL_MAX_ACTIONS, answer, sizeof answer);
+    number = hall_run_write_built_in(file, sizeof file, 8, 0, actions, 4 * HALL_MAX_ACTIONS, answer, sizeof answer);
 }
 
 static void read_run(void)
@@ -121,6 +134,7 @@ struct peak {
 
 static struct peak peaks[] = {
     {"open", 0},
+    {"open with votes", 0},
     {"1 submit", 0},
     {"2 label", 0},
     {"3 send an entry", 0},
@@ -138,6 +152,8 @@ static struct peak peaks[] = {
     {"page of a full order", 0},
     {"write a run", 0},
     {"read a run", 0},
+    {"write a run with votes", 0},
+    {"read a run with votes", 0},
     {"read an action", 0},
 };
 
@@ -234,6 +250,7 @@ static void longest_order(void)
 
 int main(void)
 {
+    measure("open with votes", open_row, HALL_OK, SMALL);
     measure("open", open_hall, HALL_OK, SMALL);
     one_entry();
     measure("open", open_hall, HALL_OK, SMALL);
@@ -241,6 +258,8 @@ int main(void)
     measure("page of a full order", read_page, HALL_OK, SMALL);
     measure("write a run", write_run, HALL_OK, SMALL);
     measure("read a run", read_run, HALL_OK, SMALL);
+    measure("write a run with votes", write_votes, HALL_OK, SMALL);
+    measure("read a run with votes", read_run, HALL_OK, SMALL);
     measure("read an action", read_action, HALL_OK, SMALL);
 
     print_peaks();

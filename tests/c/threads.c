@@ -56,7 +56,7 @@ static const uint32_t all_kinds[][4] = {
  * calls. Each function below returns 0 if all calls were taken. */
 static uint32_t take_all_kinds(void)
 {
-    uint32_t refused = hall_open(hall, sizeof hall, 2, 3);
+    uint32_t refused = hall_open_built_in(hall, sizeof hall, 2, 3);
     for (size_t i = 0; i < sizeof all_kinds / sizeof all_kinds[0]; i++) {
         const uint32_t *words = all_kinds[i];
         refused |= step(words[0], words[1], words[2], words[3]);
@@ -68,7 +68,7 @@ static uint32_t take_all_kinds(void)
  * next puts them there. */
 static uint32_t prepare_longest_order(void)
 {
-    uint32_t refused = hall_open(hall, sizeof hall, 1, 1);
+    uint32_t refused = hall_open_built_in(hall, sizeof hall, 1, 1);
     for (uint32_t i = 1; i <= HALL_MAX_ENTRIES; i++) {
         refused |= step(HALL_SUBMIT, 1, i, 0);
         refused |= step(HALL_LABEL, 1, 0, 0);
