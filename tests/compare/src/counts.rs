@@ -72,13 +72,13 @@ fn cases_of(kind: usize) -> &'static [u32] {
 /// Every answer and refusal that must have come.
 fn wanted_answers() -> Vec<(Call, u32, u32)> {
     let mut wanted = Vec::new();
-    for number in [0, 16, 18] {
+    for number in [0, 16, 41, 18] {
         wanted.push((Call::Open, number, 0));
     }
     for number in [0, 31, 12, 38, 18] {
         wanted.push((Call::Page, number, 0));
     }
-    for number in [0, 19, 16, 18] {
+    for number in [0, 19, 16, 41, 18] {
         wanted.push((Call::RunRead, number, 0));
         wanted.push((Call::RunWrite, number, 0));
     }

@@ -7,21 +7,27 @@ use crate::counts::Counts;
 use crate::halls;
 use crate::pair::{random_room, Difference, Pair};
 use crate::random::Random;
+use crate::rows::{self, EDGES};
 use reference::calls::ANSWER_LENGTH;
+use reference::hall::{built_in_votes, MOST_VOTES};
 use reference::stored::LENGTH;
-use reference::{open, stored, Hall};
+use reference::{open, open_built_in, stored, Hall, Votes};
 
 /// Damaged bytes that are a hall, and bytes that are none.
 pub const STILL_A_HALL: &str = "damaged: still a hall";
 pub const NO_HALL: &str = "damaged: no hall";
 
+/// Where the votes stand.
+const VOTES_AT: usize = 59_699;
+
 /// A hall to damage: a random one, or one that a run reaches.
 fn sound_hall(random: &mut Random) -> Hall {
     if random.coin() {
-        return halls::hall(random);
+        return halls::voting(random);
     }
     let n = random.between(1, 8);
-    let mut hall = open(n, 0).expect("the opening is taken");
+    let votes = rows::passing(random, n);
+    let mut hall = open(n, 0, votes).expect("the opening is taken");
     let weights = actions::Weights::random(random);
     for _ in 0..random.between(0, 2_000) {
         let [k, r, a, b] = actions::action(random, &hall, &weights);
@@ -62,11 +68,12 @@ fn limit(at: usize) -> u8 {
         163..=802 => [8, 255, 255, 255, 255, 255, 255, 255, 255, 64][(at - 163) % 10],
         803..=3_090 => recorder_limit((at - 803) % 286),
         3_091..=55_058 => place_limit((at - 3_091) % 203),
-        _ => match (at - 55_059) % 145 {
+        55_059..VOTES_AT => match (at - 55_059) % 145 {
             0 => 72,
             k if k % 2 == 1 => 8,
             _ => 64,
         },
+        _ => [255, 3, 0, 0][(at - VOTES_AT) % 4],
     }
 }
 
@@ -165,7 +172,7 @@ const NUMBERS: [(usize, u32, u32); 5] = [
 /// Each of the four bytes of a number, set to all values.
 pub fn numbers(_: u64, counts: &mut Counts) -> Result<(), Difference> {
     let mut pair = Pair::of_bytes(vec![0; LENGTH], LENGTH);
-    pair.open(1, 1, counts)?;
+    pair.open_built_in(1, 1, counts)?;
     for action in NUMBERED {
         pair.step(action, ANSWER_LENGTH, counts)?;
     }
@@ -177,9 +184,7 @@ pub fn numbers(_: u64, counts: &mut Counts) -> Result<(), Difference> {
                 area[at + k] = byte;
             });
             let (refusal, _) = pair.page(1, 0, ANSWER_LENGTH, counts)?;
-            let mut number = [0; 4];
-            number.copy_from_slice(&pair.lent()[at..at + 4]);
-            let number = u32::from_le_bytes(number);
+            let number = word_at(pair.lent(), at);
             if (refusal == 0) != (least..=most).contains(&number) {
                 return Err(format!("number {number} at {at}: {refusal}"));
             }
@@ -188,14 +193,84 @@ pub fn numbers(_: u64, counts: &mut Counts) -> Result<(), Difference> {
     Ok(())
 }
 
+/// The word at an offset.
+fn word_at(bytes: &[u8], at: usize) -> u32 {
+    u32::from_le_bytes([bytes[at], bytes[at + 1], bytes[at + 2], bytes[at + 3]])
+}
+
+/// The votes in a hall's bytes.
+fn votes_in(bytes: &[u8]) -> Votes {
+    let mut votes = [0; 8];
+    for (place, vote) in votes.iter_mut().enumerate() {
+        *vote = word_at(bytes, VOTES_AT + 4 * place);
+    }
+    votes
+}
+
+/// Whether a row may stand in a hall of N, as 02 says it.
+fn may_stand(n: u32, votes: Votes) -> bool {
+    let (within, above) = votes.split_at(n as usize);
+    let most = within.iter().max();
+    most.is_some_and(|&most| (1..=MOST_VOTES).contains(&most)) && above.iter().all(|&v| v == 0)
+}
+
+/// A step and a page on a hall whose votes are changed: 31 exactly if they may
+/// not stand there. The step forms a view, which may be entered.
+fn votes_changed(
+    pair: &mut Pair,
+    form: &[u8],
+    change: impl Fn(&mut [u8]),
+    counts: &mut Counts,
+) -> Result<(), Difference> {
+    pair.change(|area| {
+        area.copy_from_slice(form);
+        change(&mut area[VOTES_AT..]);
+    });
+    let votes = votes_in(pair.lent());
+    let wanted = if may_stand(form[0].into(), votes) {
+        0
+    } else {
+        31
+    };
+    let (page, _) = pair.page(1, 0, ANSWER_LENGTH, counts)?;
+    let step = pair.step([5, 0, 2, 1], ANSWER_LENGTH, counts)?;
+    if (page, step) != (wanted, wanted) {
+        return Err(format!("votes {votes:?}: page {page}, step {step}"));
+    }
+    counts.event(if wanted == 0 { STILL_A_HALL } else { NO_HALL });
+    Ok(())
+}
+
+/// Votes in an opened hall of every N: every value of each byte; votes at their
+/// edges at each place, in a row of 0 and in one of the most votes; all 0.
+pub fn votes(_: u64, counts: &mut Counts) -> Result<(), Difference> {
+    for n in 1..=8 {
+        let hall = open_built_in(n, 0).expect("the opening is taken");
+        let form = stored::form(&hall);
+        let mut pair = Pair::of_hall(hall, &[]);
+        for (at, byte) in (0..32).flat_map(|at| (0..=255).map(move |byte| (at, byte))) {
+            votes_changed(&mut pair, &form, |votes| votes[at] = byte, counts)?;
+        }
+        for row in [[0; 8], rows::equal(n, MOST_VOTES), built_in_votes(n)] {
+            for (place, vote) in (0..8).flat_map(|place| EDGES.map(|vote| (place, vote))) {
+                let words = rows::with_vote(row, place, vote).map(u32::to_le_bytes);
+                let put = |votes: &mut [u8]| votes.copy_from_slice(words.as_flattened());
+                votes_changed(&mut pair, &form, put, counts)?;
+            }
+        }
+    }
+    Ok(())
+}
+
 /// The tables of a stored hall: offset, size of a record, number of records.
-const TABLES: [(usize, usize, usize); 6] = [
+const TABLES: [(usize, usize, usize); 7] = [
     (2, 5, 32),
     (163, 10, 64),
     (803, 286, 8),
     (3_091, 203, 256),
     (3_091, 6_496, 8),
     (55_059, 145, 32),
+    (VOTES_AT, 4, 8),
 ];
 
 /// Copies one record of a table over another, or swaps two of them.
@@ -280,7 +355,7 @@ pub fn lengths(seed: u64, counts: &mut Counts) -> Result<(), Difference> {
         let length = match random.below(5) {
             0 => random.below(LENGTH),
             1 => LENGTH - 1,
-            2 => random.pick(&[0, 1, 2, 162, 803, 3_091, 55_059, LENGTH]),
+            2 => random.pick(&[0, 1, 2, 162, 803, 3_091, 55_059, VOTES_AT, LENGTH]),
             _ => LENGTH + random.below(200),
         };
         let mut pair = Pair::of_bytes(area.clone(), length);

@@ -4,12 +4,12 @@
 use crate::decisions;
 use reference::choice::longest_order;
 use reference::exchange::{exchanged_entries, heard_sources};
-use reference::hall::{at_mark, entry_set, LAST_SEQ, MOST_LABELS};
+use reference::hall::{at_mark, built_in_votes, entry_set, is_quorum, LAST_SEQ, MOST_LABELS};
 use reference::{Hall, Label, Message, Phase, Recorder, Seat, View};
 
 /// The events that all calls together must meet; `decisions` has those that
 /// calls on reached and on random halls must meet each.
-pub const EVENTS: [&str; 23] = [
+pub const EVENTS: [&str; 24] = [
     LAST_NUMBER,
     ABOVE_BY_HIGH_BYTES,
     BELOW_BY_HIGH_BYTES,
@@ -33,6 +33,21 @@ pub const EVENTS: [&str; 23] = [
     NOTICE_SOME_HEARD,
     NOTICE_NONE_HEARD,
     NOTICE_LONG,
+    NOTICE_OTHER,
+];
+
+/// Where a view is primary by the hall's row and not by the built-in one, and
+/// the other way round: at each step that asks whether it is. Calls on reached
+/// and on random halls must meet them each.
+pub const BY_ROW: [&str; 8] = [
+    ENTRY_BY_ROW,
+    ENTRY_BY_BUILT_IN,
+    COMPLETED_BY_ROW,
+    COMPLETED_BY_BUILT_IN,
+    SAFE_BY_ROW,
+    SAFE_BY_BUILT_IN,
+    NOTICE_BY_ROW,
+    NOTICE_BY_BUILT_IN,
 ];
 
 const LAST_NUMBER: &str = "form: the last number";
@@ -58,6 +73,15 @@ const NOTICE_ALL_HEARD: &str = "safe: the last summary, all heard";
 const NOTICE_SOME_HEARD: &str = "safe: the last summary, some heard";
 const NOTICE_NONE_HEARD: &str = "safe: the last summary, none heard";
 const NOTICE_LONG: &str = "safe: the last summary, of an order past 64";
+const NOTICE_OTHER: &str = "safe: the last summary, not primary";
+const ENTRY_BY_ROW: &str = "receive: an entry, primary by the row alone";
+const ENTRY_BY_BUILT_IN: &str = "receive: an entry, primary by the built-in row alone";
+const COMPLETED_BY_ROW: &str = "receive: the last summary, primary by the row alone";
+const COMPLETED_BY_BUILT_IN: &str = "receive: the last summary, primary by the built-in row alone";
+const SAFE_BY_ROW: &str = "safe: an entry, primary by the row alone";
+const SAFE_BY_BUILT_IN: &str = "safe: an entry, primary by the built-in row alone";
+const NOTICE_BY_ROW: &str = "safe: the last summary, primary by the row alone";
+const NOTICE_BY_BUILT_IN: &str = "safe: the last summary, primary by the built-in row alone";
 
 /// What is kept of the hall before a step of kinds 2, 4, 8 and 9.
 pub struct Before {
@@ -69,6 +93,8 @@ pub struct Before {
     summary_sent: bool,
     members: u32,
     primary: bool,
+    /// Whether the built-in row would say otherwise.
+    by_row: bool,
     /// The message at the mark of kinds 8 and 9, and its source.
     message: Option<(Message, u32)>,
     /// How long the order would be that the heard summaries build.
@@ -92,6 +118,7 @@ fn look(hall: &Hall, recorder: &Recorder, view: &View, seat: &Seat, kind: u32) -
     let mark = if kind == 8 { seat.receive } else { seat.safe };
     let queued = at_mark(&view.queue, mark);
     let summary = queued.filter(|queued| queued.message == Message::Summary);
+    let primary = hall.is_primary(view);
     Before {
         next_seq: recorder.next_seq,
         buffer: recorder.buffer.len(),
@@ -100,7 +127,8 @@ fn look(hall: &Hall, recorder: &Recorder, view: &View, seat: &Seat, kind: u32) -
         safe_sources: recorder.safe_sources,
         summary_sent: seat.summary.is_some(),
         members: view.members,
-        primary: hall.is_primary(view),
+        primary,
+        by_row: primary != is_quorum(&built_in_votes(hall.n), view.members),
         message: queued.map(|q| (q.message, q.source)),
         built: match summary {
             Some(_) if kind == 9 => built_length(view, recorder.heard),
@@ -131,10 +159,27 @@ pub fn events(
     number: u32,
 ) -> Vec<&'static str> {
     let event = event(before.as_ref(), hall, action, number);
+    let differs = before.as_ref().is_some_and(|before| before.by_row);
+    let by_row = event.filter(|_| differs).and_then(by_row);
     // What decides about 40 decides as well.
     let before = before.filter(|_| matches!(number, 0 | 40));
     let decided = before.map_or(Vec::new(), |before| before.decided);
-    event.into_iter().chain(decided).collect()
+    event.into_iter().chain(by_row).chain(decided).collect()
+}
+
+/// The event of a step where the built-in row would say otherwise.
+fn by_row(event: &'static str) -> Option<&'static str> {
+    Some(match event {
+        ENTRY_PRIMARY => ENTRY_BY_ROW,
+        ENTRY_OTHER => ENTRY_BY_BUILT_IN,
+        COMPLETED_PRIMARY => COMPLETED_BY_ROW,
+        COMPLETED_OTHER => COMPLETED_BY_BUILT_IN,
+        SAFE_PRIMARY => SAFE_BY_ROW,
+        SAFE_OTHER => SAFE_BY_BUILT_IN,
+        NOTICE_ALL_HEARD | NOTICE_SOME_HEARD | NOTICE_LONG => NOTICE_BY_ROW,
+        NOTICE_OTHER => NOTICE_BY_BUILT_IN,
+        _ => return None,
+    })
 }
 
 /// The event of a step by its kind and number, if it has one.
@@ -232,8 +277,11 @@ fn noticed(before: &Before) -> Option<&'static str> {
         });
     }
     let last = before.safe_sources | 1 << (source - 1) == before.members;
-    if !(last && before.primary) {
+    if !last {
         return None;
+    }
+    if !before.primary {
+        return Some(NOTICE_OTHER);
     }
     Some(match before.heard {
         0 => NOTICE_NONE_HEARD,

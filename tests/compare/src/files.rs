@@ -6,10 +6,12 @@ use crate::counts::{Call, Counts};
 use crate::library::{self, Lent};
 use crate::pair::{answer_slice, first_difference, given, random_room, words_of, Difference};
 use crate::random::Random;
+use crate::rows;
 use crate::vectors::run_files;
 use reference::calls::{self, ANSWER_LENGTH, WORDS};
-use reference::runfile::{Run, BLOCK, MOST_ACTIONS, MOST_BYTES};
-use reference::{read_run_file, write_run_file};
+use reference::hall::judge_votes;
+use reference::runfile::{Run, BLOCK, MOST_ACTIONS, MOST_ACTIONS_WITH_VOTES, MOST_BYTES};
+use reference::{read_run_file, write_run_file, Opening};
 use std::fs;
 
 const EARLIER_BYTES: &str = "run file: bytes before the opening block";
@@ -21,9 +23,19 @@ const MOST_WRITTEN: &str = "run file: 4,094 actions written";
 const TOO_MANY: &str = "run file: 4,095 actions refused";
 const OFFSET_PAST: &str = "run file: an offset near 2^64";
 const HIGH_WORD: &str = "run file: an offset with a high word";
+const VOTES_EARLIER_BYTES: &str = "run file with votes: bytes before the opening block";
+const VOTES_LONGEST: &str = "run file with votes: of 65,536 bytes, taken";
+const VOTES_READ_BACK: &str = "run file with votes: written and read back";
+const VOTES_MOST_WRITTEN: &str = "run file with votes: 4,092 actions written";
+const VOTES_TOO_MANY: &str = "run file with votes: 4,093 actions refused";
+const VOTES_UNUSED: &str = "run file without votes: wrong ones not looked at";
+const OTHER_DISTANCE: &str = "run file: the distance of the other third word, refused";
+const NO_ROOM: &str = "run file: no room for votes, refused";
+const OTHER_THIRD: &str = "run file: a third word above 1, refused";
+const OTHER_THIRD_WRITTEN: &str = "run file: a third word above 1 and wrong votes, not written";
 
 /// What must have come.
-pub const EVENTS: [&str; 9] = [
+pub const EVENTS: [&str; 19] = [
     EARLIER_BYTES,
     LONGEST,
     TOO_LONG,
@@ -33,7 +45,80 @@ pub const EVENTS: [&str; 9] = [
     TOO_MANY,
     OFFSET_PAST,
     HIGH_WORD,
+    VOTES_EARLIER_BYTES,
+    VOTES_LONGEST,
+    VOTES_READ_BACK,
+    VOTES_MOST_WRITTEN,
+    VOTES_TOO_MANY,
+    VOTES_UNUSED,
+    OTHER_DISTANCE,
+    NO_ROOM,
+    OTHER_THIRD,
+    OTHER_THIRD_WRITTEN,
 ];
+
+/// The word at an offset, if there is one.
+fn word_at(file: &[u8], at: usize) -> Option<u32> {
+    let bytes = file.get(at..at.checked_add(4)?)?;
+    Some(u32::from_le_bytes([bytes[0], bytes[1], bytes[2], bytes[3]]))
+}
+
+/// Where the opening block of a file stands, by its trailer.
+fn block_at(file: &[u8]) -> Option<usize> {
+    let trailer = file.len().checked_sub(BLOCK)?;
+    let distance = word_at(file, trailer)? as usize;
+    file.len().checked_sub(distance).filter(|&at| at < trailer)
+}
+
+/// Bytes of a run, by the third word; any but 1 has no votes.
+fn run_length(third: u32, count: usize) -> usize {
+    BLOCK * (count + if third == 1 { 4 } else { 2 })
+}
+
+/// Why a file is refused that is so for its third word, or the distance that
+/// does not go with it.
+fn refused_by_third(file: &[u8]) -> Option<&'static str> {
+    let at = block_at(file)?;
+    let (third, count) = (word_at(file, at + 8)?, word_at(file, file.len() - 12)?);
+    let distance = file.len() - at;
+    let of = |third: u32| distance == run_length(third, count as usize);
+    match third {
+        1 if distance < run_length(1, 0) => Some(NO_ROOM),
+        0 if of(1) => Some(OTHER_DISTANCE),
+        1 if of(0) => Some(OTHER_DISTANCE),
+        2.. if of(0) || of(1) => Some(OTHER_THIRD),
+        _ => None,
+    }
+}
+
+/// The event of a run that is taken, by the words of its opening.
+fn taken(words: &[u32; WORDS], length: usize) -> Option<&'static str> {
+    let votes = words[5] == 1;
+    let block = words[2] as usize - if votes { 3 * BLOCK } else { BLOCK };
+    match (block, length) {
+        (0, MOST_BYTES) if votes => Some(VOTES_LONGEST),
+        (0, MOST_BYTES) => Some(LONGEST),
+        (0, _) => None,
+        _ if votes => Some(VOTES_EARLIER_BYTES),
+        _ => Some(EARLIER_BYTES),
+    }
+}
+
+/// The event of a run to write, by its number.
+fn write_event(opening: Opening, count: usize, number: u32) -> Option<&'static str> {
+    const WITH_VOTES_AND_ONE: usize = MOST_ACTIONS_WITH_VOTES + 1;
+    const AND_ONE: usize = MOST_ACTIONS + 1;
+    let right = (1..=8).contains(&opening.n) && judge_votes(opening.n, &opening.votes).is_ok();
+    match (opening.third, number, count) {
+        (1, 0, MOST_ACTIONS_WITH_VOTES) => Some(VOTES_MOST_WRITTEN),
+        (1, 19, WITH_VOTES_AND_ONE) => Some(VOTES_TOO_MANY),
+        (0, 0, MOST_ACTIONS) => Some(MOST_WRITTEN),
+        (0, 19, AND_ONE) => Some(TOO_MANY),
+        (0, 0, _) if !right => Some(VOTES_UNUSED),
+        (2.., 19, _) if !right => Some(OTHER_THIRD_WRITTEN),
+        _ => None,
+    }
+}
 
 /// A file on both sides: the bytes that the library is lent, and those that
 /// they must be.
@@ -97,13 +182,14 @@ impl File {
         let (number, words) = given.map_err(|what| format!("run read: {what}"))?;
         counts.call(Call::RunRead, number, 0);
         let length = self.lent.length();
-        match number {
-            0 if words[2] as usize > BLOCK => counts.event(EARLIER_BYTES),
-            19 if length > MOST_BYTES => counts.event(TOO_LONG),
-            _ => {}
-        }
-        if number == 0 && length == MOST_BYTES {
-            counts.event(LONGEST);
+        let event = match number {
+            0 => taken(&words, length),
+            19 if length > MOST_BYTES => Some(TOO_LONG),
+            19 => refused_by_third(&self.lent.area()[..length]),
+            _ => None,
+        };
+        if let Some(event) = event {
+            counts.event(event);
         }
         Ok((number, words))
     }
@@ -129,7 +215,7 @@ impl File {
 
     fn write(
         &mut self,
-        opening: (u32, u32),
+        opening: Opening,
         actions: &[u32],
         room: usize,
         counts: &mut Counts,
@@ -147,20 +233,19 @@ impl File {
             return Err(at("the actions are changed".to_string()));
         }
         counts.call(Call::RunWrite, number, 0);
-        match (number, count) {
-            (0, MOST_ACTIONS) => counts.event(MOST_WRITTEN),
-            (19, _) if count == MOST_ACTIONS + 1 => counts.event(TOO_MANY),
-            _ => {}
+        if let Some(event) = write_event(opening, count, number) {
+            counts.event(event);
         }
         Ok(number)
     }
 
     /// The whole run, call by call until the end, which comes twice.
     fn run(&mut self, counts: &mut Counts) -> Result<Result<Run, u32>, Difference> {
-        let (number, [n, founders, low, high, count, ..]) = self.read(ANSWER_LENGTH, counts)?;
+        let (number, words) = self.read(ANSWER_LENGTH, counts)?;
         if number != 0 {
             return Ok(Err(number));
         }
+        let [n, founders, low, high, count, third, votes @ .., _, _] = words;
         let offset = |low: u32, high: u32| low as usize | (high as usize) << 32;
         let mut at = offset(low, high);
         let mut actions = Vec::new();
@@ -177,7 +262,13 @@ impl File {
             let actions = actions.len();
             return Err(format!("{actions} actions, must be {count}"));
         }
-        Ok(Ok((n, founders, actions)))
+        let opening = Opening {
+            n,
+            founders,
+            third,
+            votes,
+        };
+        Ok(Ok((opening, actions)))
     }
 }
 
@@ -191,14 +282,10 @@ fn read_alike(file: &[u8], counts: &mut Counts) -> Result<Result<Run, u32>, Diff
 }
 
 /// Writes a run that was read from a file back into a slice of its length.
-fn write_back(
-    file: &[u8],
-    (n, founders, actions): Run,
-    counts: &mut Counts,
-) -> Result<(), Difference> {
-    let length = 2 * BLOCK + BLOCK * actions.len();
+fn write_back(file: &[u8], (opening, actions): Run, counts: &mut Counts) -> Result<(), Difference> {
+    let length = run_length(opening.third, actions.len());
     let mut written = File::whole(vec![0xa5; length]);
-    written.write((n, founders), actions.as_flattened(), ANSWER_LENGTH, counts)?;
+    written.write(opening, actions.as_flattened(), ANSWER_LENGTH, counts)?;
     if length == file.len() {
         if written.lent.area() != file {
             return Err("it is not written back".to_string());
@@ -227,25 +314,40 @@ fn any_actions(random: &mut Random, count: usize) -> Vec<u32> {
     (0..4 * count).map(|_| random.word()).collect()
 }
 
+/// The most actions of a file with a third word.
+fn most_actions(third: u32) -> usize {
+    match third {
+        1 => MOST_ACTIONS_WITH_VOTES,
+        _ => MOST_ACTIONS,
+    }
+}
+
 /// How many actions a file has: mostly few.
-fn any_count(random: &mut Random) -> usize {
+fn any_count(random: &mut Random, third: u32) -> usize {
+    let most = most_actions(third);
     match random.below(12) {
-        0 => MOST_ACTIONS - random.below(3),
-        1 => random.below(MOST_ACTIONS + 1),
+        0 => most - random.below(3),
+        1 => random.below(most + 1),
         _ => random.below(20),
     }
 }
 
-/// N and founders that are taken.
-fn right_opening(random: &mut Random) -> (u32, u32) {
+/// An opening that is taken, with votes or with the built-in row.
+fn right_opening(random: &mut Random) -> Opening {
     let n = random.between(1, 8);
-    (n, random.below(1 << n) as u32)
+    let founders = random.below(1 << n) as u32;
+    if random.coin() {
+        Opening::with_votes(n, founders, rows::passing(random, n))
+    } else {
+        Opening::built_in(n, founders)
+    }
 }
 
 /// A run file that is taken, with bytes before the opening block.
 fn sound_file(random: &mut Random) -> Vec<u8> {
-    let count = any_count(random);
-    let length = 2 * BLOCK + BLOCK * count;
+    let opening = right_opening(random);
+    let count = any_count(random, opening.third);
+    let length = run_length(opening.third, count);
     let earlier = match random.below(4) {
         0 => MOST_BYTES - length,
         1 => random.below(80).min(MOST_BYTES - length),
@@ -253,12 +355,11 @@ fn sound_file(random: &mut Random) -> Vec<u8> {
     };
     let mut file = vec![0; earlier + length];
     random.fill(&mut file[..earlier]);
-    let (n, founders) = right_opening(random);
     let mut word = || random.word();
     let actions: Vec<[u32; 4]> = (0..count)
         .map(|_| [word(), word(), word(), word()])
         .collect();
-    write_run_file(n, founders, &actions, &mut file[earlier..]).expect("a run that is taken");
+    write_run_file(opening, &actions, &mut file[earlier..]).expect("a run that is taken");
     file
 }
 
@@ -270,11 +371,69 @@ fn change_word(file: &mut [u8], i: usize, change: impl Fn(u32) -> u32) {
     bytes.copy_from_slice(&change(word).to_le_bytes());
 }
 
+/// Changes the word at an offset, if there is one.
+fn set_word(file: &mut [u8], at: usize, word: u32) {
+    if let Some(bytes) = file.get_mut(at..at + 4) {
+        bytes.copy_from_slice(&word.to_le_bytes());
+    }
+}
+
+/// Puts an opening block with third word 1 so near the end that no votes follow
+/// it, with a count that makes the distance right modulo 2^32.
+fn no_room_for_votes(random: &mut Random, file: &mut [u8]) {
+    let blocks = random.pick(&[2, 3]);
+    let Some(block) = file.len().checked_sub(BLOCK * blocks) else {
+        return;
+    };
+    let trailer = file.len() - BLOCK;
+    let (distance, count) = (16 * blocks as u32, (1 << 28) - 4 + blocks as u32);
+    let opening = [(0, 3), (4, 0), (8, 1), (12, 0)];
+    opening.map(|(at, word)| set_word(file, block + at, word));
+    let last = [(0, distance), (4, count), (8, 0), (12, 0)];
+    last.map(|(at, word)| set_word(file, trailer + at, word));
+}
+
+/// A third word, a count or votes that do not go with the rest of a file, or
+/// actions taken for votes, or votes for actions.
+fn damage_votes(random: &mut Random, file: &mut [u8]) {
+    let Some(block) = block_at(file) else {
+        return;
+    };
+    let given = word_at(file, block + 8) == Some(1);
+    let other_count = |count: u32| {
+        if given {
+            count.wrapping_add(2)
+        } else {
+            count.wrapping_sub(2)
+        }
+    };
+    let other_third = u32::from(!given);
+    match random.below(7) {
+        0 => set_word(file, block + 8, random.pick(&[0, 1, 2, 256, u32::MAX])),
+        1 => set_word(file, block + 8, other_third),
+        2 => change_word(file, 2, other_count),
+        3 => {
+            set_word(file, block + 8, other_third);
+            change_word(file, 2, other_count);
+        }
+        4 => no_room_for_votes(random, file),
+        5 => {
+            // A wrong third word, and a wrong vote behind it.
+            set_word(file, block + 8, 2);
+            set_word(file, block + BLOCK, 1_001);
+        }
+        _ => {
+            let vote = block + BLOCK + 4 * random.below(8);
+            set_word(file, vote, random.pick(&rows::EDGES));
+        }
+    }
+}
+
 /// Damages a file: bytes changed, cut off or added.
 fn damage(random: &mut Random, file: &mut Vec<u8>) {
     let length = file.len();
     let blocks = length / BLOCK;
-    match random.below(12) {
+    match random.below(18) {
         0 => file[random.below(length)] ^= 1 << random.below(8),
         1 => file[length - 1 - random.below(BLOCK)] ^= 1 << random.below(8),
         2 => {
@@ -305,7 +464,8 @@ fn damage(random: &mut Random, file: &mut Vec<u8>) {
             let word = random.word();
             change_word(file, random.below(4), |_| word);
         }
-        _ => file.truncate(random.below(length.min(3 * BLOCK))),
+        11 => file.truncate(random.below(length.min(3 * BLOCK))),
+        _ => damage_votes(random, file),
     }
 }
 
@@ -347,22 +507,35 @@ pub fn damaged(seed: u64, counts: &mut Counts) -> Result<(), Difference> {
         .map_err(|number| format!("a sound file refused with {number}"))
 }
 
-/// N and founders, now and then refused.
-fn any_opening(random: &mut Random) -> (u32, u32) {
-    match random.below(8) {
-        0 => (random.between(0, 10), random.word() >> random.below(32)),
-        1 => (random.word(), random.word()),
-        _ => right_opening(random),
+/// An opening, now and then refused. Its votes may be any with any third word.
+fn any_opening(random: &mut Random) -> Opening {
+    let mut opening = right_opening(random);
+    match random.below(10) {
+        0 => {
+            opening.n = random.between(0, 10);
+            opening.founders = random.word() >> random.below(32);
+        }
+        1 => {
+            opening.n = random.word();
+            opening.founders = random.word();
+        }
+        2 => opening.third = random.pick(&[2, 3, 256, 1 << 31, u32::MAX]),
+        _ => (),
     }
+    if random.coin() {
+        opening.votes = rows::any(random, opening.n);
+    }
+    opening
 }
 
 /// How many actions are to be written: now and then too many.
-fn count_to_write(random: &mut Random) -> usize {
+fn count_to_write(random: &mut Random, third: u32) -> usize {
     match random.below(10) {
-        0 => MOST_ACTIONS + 1,
-        1 => MOST_ACTIONS + 1 + random.below(1_000),
+        0 => most_actions(third) + 1,
+        1 => most_actions(third) + 1 + random.below(1_000),
         2 => 0,
-        _ => any_count(random),
+        3 => most_actions(third),
+        _ => any_count(random, third),
     }
 }
 
@@ -382,11 +555,11 @@ pub fn written(seed: u64, counts: &mut Counts) -> Result<(), Difference> {
     let mut random = Random::new("written files", seed);
     for _ in 0..8 {
         let opening = any_opening(&mut random);
-        let count = count_to_write(&mut random);
+        let count = count_to_write(&mut random, opening.third);
         let mut actions = any_actions(&mut random, count);
         // A rest that is no action.
         actions.extend((0..random.between(0, 3)).map(|word| word + 1));
-        let run = 2 * BLOCK + BLOCK * count;
+        let run = run_length(opening.third, count);
         let length = length_to_write(&mut random, run);
         let mut area = vec![0; length + random.below(20)];
         random.fill(&mut area);
@@ -395,12 +568,17 @@ pub fn written(seed: u64, counts: &mut Counts) -> Result<(), Difference> {
         if file.write(opening, &actions, room, counts)? != 0 {
             continue;
         }
-        let (n, founders, read) = read_alike(&file.lent.area()[..run], counts)?
+        let (given, read) = read_alike(&file.lent.area()[..run], counts)?
             .map_err(|number| format!("written and refused with {number}"))?;
-        if (n, founders) != opening || read.as_flattened() != &actions[..4 * count] {
+        // Votes that are not written read back as 0.
+        let votes = opening.votes.map(|vote| vote * opening.third);
+        if given != (Opening { votes, ..opening }) || read.as_flattened() != &actions[..4 * count] {
             return Err("another run is read back".to_string());
         }
-        counts.event(READ_BACK);
+        counts.event(match opening.third {
+            1 => VOTES_READ_BACK,
+            _ => READ_BACK,
+        });
     }
     Ok(())
 }

@@ -2,9 +2,10 @@
 //! kept, most of which no run reaches.
 
 use crate::random::Random;
+use crate::rows;
 use reference::hall::{
-    entry_set, recorder_bit, LAST_ORDER_MARK, LAST_QUEUE_MARK, LAST_SEQ, MOST_ENTRIES, MOST_LABELS,
-    MOST_PENDING, MOST_QUEUED, MOST_VIEWS,
+    built_in_votes, entry_set, recorder_bit, LAST_ORDER_MARK, LAST_QUEUE_MARK, LAST_SEQ,
+    MOST_ENTRIES, MOST_LABELS, MOST_PENDING, MOST_QUEUED, MOST_VIEWS,
 };
 use reference::{Entry, Hall, Label, Message, Phase, Queued, Recorder, Seat, Summary, View};
 
@@ -305,7 +306,14 @@ fn recorder(
     }
 }
 
-/// A random hall.
+/// A random hall with a random row of votes.
+pub fn voting(random: &mut Random) -> Hall {
+    let mut hall = hall(random);
+    hall.votes = rows::passing(random, hall.n);
+    hall
+}
+
+/// A random hall with the built-in row.
 pub fn hall(random: &mut Random) -> Hall {
     let style = Style::random(random);
     let entries = entries(random, &style);
@@ -321,6 +329,7 @@ pub fn hall(random: &mut Random) -> Hall {
         entries,
         views,
         recorders,
+        votes: built_in_votes(style.n),
     }
 }
 
@@ -352,7 +361,7 @@ fn close_summary(random: &mut Random, names: &Names, least: usize, high: u32) ->
 fn hall_with_members(random: &mut Random, entries: usize) -> (Hall, usize) {
     let several = |view: &View| view.members.count_ones() > 1;
     loop {
-        let hall = hall(random);
+        let hall = voting(random);
         match hall.views.iter().position(several) {
             Some(index) if Names::of(&hall.entries).0.len() > entries => return (hall, index),
             _ => (),

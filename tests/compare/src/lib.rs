@@ -14,5 +14,6 @@ pub mod offsets;
 pub mod openings;
 pub mod pair;
 pub mod random;
+pub mod rows;
 pub mod runs;
 pub mod vectors;

@@ -1,7 +1,22 @@
 //! The library's calls (include/hall.h), on slices that lie between guards.
 
+use reference::{Opening, Votes};
+
 extern "C" {
-    fn hall_open(hall: *mut u8, hall_len: usize, n: u32, founders: u32) -> u32;
+    fn hall_open(
+        hall: *mut u8,
+        hall_len: usize,
+        n: u32,
+        founders: u32,
+        v1: u32,
+        v2: u32,
+        v3: u32,
+        v4: u32,
+        v5: u32,
+        v6: u32,
+        v7: u32,
+        v8: u32,
+    ) -> u32;
 
     fn hall_step(
         hall: *mut u8,
@@ -38,6 +53,15 @@ extern "C" {
         file_len: usize,
         n: u32,
         founders: u32,
+        third: u32,
+        v1: u32,
+        v2: u32,
+        v3: u32,
+        v4: u32,
+        v5: u32,
+        v6: u32,
+        v7: u32,
+        v8: u32,
         actions: *const u32,
         actions_len: usize,
         words: *mut u8,
@@ -92,9 +116,25 @@ impl Lent {
     }
 }
 
-pub fn open(hall: &mut Lent, n: u32, founders: u32) -> u32 {
+pub fn open(hall: &mut Lent, n: u32, founders: u32, votes: Votes) -> u32 {
+    let [v1, v2, v3, v4, v5, v6, v7, v8] = votes;
     // Safety: the pointer is that of `length` bytes, lent to this call alone.
-    unsafe { hall_open(hall.pointer(), hall.length, n, founders) }
+    unsafe {
+        hall_open(
+            hall.pointer(),
+            hall.length,
+            n,
+            founders,
+            v1,
+            v2,
+            v3,
+            v4,
+            v5,
+            v6,
+            v7,
+            v8,
+        )
+    }
 }
 
 pub fn step(hall: &mut Lent, [k, r, a, b]: [u32; 4], answer: &mut Lent) -> u32 {
@@ -160,20 +200,25 @@ pub fn run_action_of(file: &mut [u8], at: usize, words: &mut Lent) -> u32 {
     }
 }
 
-pub fn run_write(
-    file: &mut Lent,
-    (n, founders): (u32, u32),
-    actions: &mut [u32],
-    words: &mut Lent,
-) -> u32 {
+pub fn run_write(file: &mut Lent, opening: Opening, actions: &mut [u32], words: &mut Lent) -> u32 {
+    let [v1, v2, v3, v4, v5, v6, v7, v8] = opening.votes;
     // Safety: as above, for three areas that do not overlap. The actions are
     // lent as mutable memory for the same reason as a page's hall.
     unsafe {
         hall_run_write(
             file.pointer(),
             file.length,
-            n,
-            founders,
+            opening.n,
+            opening.founders,
+            opening.third,
+            v1,
+            v2,
+            v3,
+            v4,
+            v5,
+            v6,
+            v7,
+            v8,
             actions.as_mut_ptr(),
             actions.len(),
             words.pointer(),

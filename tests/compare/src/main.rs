@@ -23,19 +23,24 @@ type Test = fn(u64, &mut Counts) -> Result<(), Difference>;
 
 /// A test with its name, its number of seeds, 1 if it uses none, and the events
 /// that it must meet by itself.
-type Row = (&'static str, Test, u64, &'static [&'static str]);
+type Row = (&'static str, Test, u64, &'static [&'static [&'static str]]);
 
-const TESTS: [Row; 17] = [
+const REACHED: [&[&str]; 2] = [&decisions::REACHED, &events::BY_ROW];
+const RANDOM: [&[&str]; 2] = [&decisions::RANDOM, &events::BY_ROW];
+
+const TESTS: [Row; 19] = [
     ("offsets by hand", offsets::by_hand, 1, &[]),
     ("vectors", vectors::all, 1, &[]),
     ("all openings", openings::all, 1, &[]),
+    ("openings with votes", openings::votes, 1, &[]),
     ("any openings", openings::any, 32, &[]),
     ("margins", margins::all, 1, &[]),
     ("offsets of halls", offsets::of_halls, 1_000, &[]),
-    ("opened halls", runs::opened, 320, &decisions::REACHED),
-    ("odd halls", runs::odd, 400, &[]),
-    ("exchanges", runs::exchanges, 100, &decisions::RANDOM),
+    ("opened halls", runs::opened, 320, &REACHED),
+    ("odd halls", runs::odd, 400, &[&events::BY_ROW]),
+    ("exchanges", runs::exchanges, 100, &RANDOM),
     ("bytes of numbers", damage::numbers, 1, &[]),
+    ("bytes of votes", damage::votes, 1, &[]),
     ("damaged bytes", damage::some_values, 48, &[]),
     ("damaged records", damage::records, 100, &[]),
     ("lengths", damage::lengths, 100, &[]),
@@ -185,10 +190,11 @@ fn main() -> ExitCode {
         let outcome = run(test, first, seeds, options.threads);
         let seconds = begin.elapsed().as_secs_f64();
         let well = report(name, first, seeds, &outcome, seconds);
-        for event in own_events {
+        let own_events = own_events.concat();
+        for event in &own_events {
             println!("  {event}: {}", outcome.counts.of_event(event));
         }
-        let not_met = outcome.counts.missing_events(own_events).into_iter();
+        let not_met = outcome.counts.missing_events(&own_events).into_iter();
         missing.extend(not_met.map(|event| format!("{name}: {event}")));
         sum.add(outcome.counts);
         *(if well { &mut passed } else { &mut failed }) += 1;

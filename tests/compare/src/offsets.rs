@@ -45,6 +45,10 @@ fn queue_at(i: usize) -> usize {
     55_059 + 145 * i
 }
 
+fn vote_at(r: usize) -> usize {
+    59_699 + 4 * (r - 1)
+}
+
 /// What differs between a field and its bytes.
 fn same<T: PartialEq + std::fmt::Debug>(what: &str, bytes: T, field: T) -> Result<(), Difference> {
     if bytes == field {
@@ -149,7 +153,10 @@ fn stands(bytes: &Document, hall: &Hall) -> Result<(), Difference> {
         blank(bytes, at + 1 + queue.len(), 144 - queue.len())?;
     }
     blank(bytes, 2 + 5 * formed, 162 - (2 + 5 * formed))?;
-    blank(bytes, queue_at(formed), LENGTH - queue_at(formed))?;
+    blank(bytes, queue_at(formed), 59_699 - queue_at(formed))?;
+    for (r, vote) in (1..).zip(hall.votes) {
+        same("votes", bytes.word(vote_at(r)), vote)?;
+    }
     same("entries", bytes.byte(162), hall.entries.len() as u32)?;
     for (e, submitted) in (1..).zip(&hall.entries) {
         entry(bytes, e, submitted).map_err(|what| format!("entry {e}: {what}"))?;
@@ -176,7 +183,7 @@ const LATER: u32 = 0x0403_0201;
 /// implementation.
 pub fn by_hand(_: u64, counts: &mut Counts) -> Result<(), Difference> {
     let mut pair = Pair::of_bytes(vec![0xff; LENGTH], LENGTH);
-    pair.open(3, 0b011, counts)?;
+    pair.open(3, 0b011, [1_000, 3, 0x201, 0, 0, 0, 0, 0], counts)?;
     let actions = [
         [1, 2, 0x0a0b_0c0d, 0],
         [1, 1, 7, 0],
@@ -201,7 +208,7 @@ pub fn by_hand(_: u64, counts: &mut Counts) -> Result<(), Difference> {
         }
     }
     let bytes = Document(pair.lent());
-    let wanted: [(&str, usize, &[u32]); 33] = [
+    let wanted: [(&str, usize, &[u32]); 38] = [
         ("N", 0, &[3]),
         ("formed views", 1, &[2]),
         ("view 1", 2, &[1, 0, 0, 0, 0b011]),
@@ -259,6 +266,11 @@ pub fn by_hand(_: u64, counts: &mut Counts) -> Result<(), Difference> {
         ("3 in the later view: summary", 16_355, &[0; 134]),
         ("queue of view 1", 55_059, &[1, 2, 1, 0, 0]),
         ("queue of the later view", 55_204, &[1, 3, 0, 0, 0]),
+        ("no third queue", 55_349, &[0; 4_350]),
+        ("votes of 1", 59_699, &[0xe8, 3, 0, 0]),
+        ("votes of 2", 59_703, &[3, 0, 0, 0]),
+        ("votes of 3", 59_707, &[1, 2, 0, 0]),
+        ("no votes of 4 to 8", 59_711, &[0; 20]),
     ];
     for (what, at, bytes_wanted) in wanted {
         same(
@@ -274,7 +286,7 @@ pub fn by_hand(_: u64, counts: &mut Counts) -> Result<(), Difference> {
 /// stand where the document says.
 pub fn of_halls(seed: u64, counts: &mut Counts) -> Result<(), Difference> {
     let mut random = Random::new("offsets", seed);
-    let hall = halls::hall(&mut random);
+    let hall = halls::voting(&mut random);
     let mut pair = Pair::of_hall(hall, &[]);
     for _ in 0..10 {
         let hall = pair.hall().ok_or("the hall is lost")?;

@@ -7,7 +7,7 @@ use crate::events;
 use crate::library::{self, Lent};
 use crate::random::Random;
 use reference::calls::{self, ANSWER_LENGTH, WORDS};
-use reference::{open, refusal, stored, Hall};
+use reference::{built_in_votes, open, refusal, stored, Hall, Votes};
 
 /// What differs, in words.
 pub type Difference = String;
@@ -140,16 +140,32 @@ impl Pair {
         Ok(())
     }
 
-    pub fn open(&mut self, n: u32, founders: u32, counts: &mut Counts) -> Result<u32, Difference> {
+    /// Opens a hall of N, 1 to 8, with the built-in row.
+    pub fn open_built_in(
+        &mut self,
+        n: u32,
+        founders: u32,
+        counts: &mut Counts,
+    ) -> Result<u32, Difference> {
+        self.open(n, founders, built_in_votes(n), counts)
+    }
+
+    pub fn open(
+        &mut self,
+        n: u32,
+        founders: u32,
+        votes: Votes,
+        counts: &mut Counts,
+    ) -> Result<u32, Difference> {
         let room = self.lent.length() >= stored::LENGTH;
-        let opened = open(n, founders);
+        let opened = open(n, founders, votes);
         let wanted = match &opened {
             Err(number) => *number,
             Ok(_) if !room => refusal::SHORT_SLICE,
             Ok(_) => 0,
         };
-        let number = library::open(&mut self.lent, n, founders);
-        let at = |what: Difference| format!("open {n} {founders}: {what}");
+        let number = library::open(&mut self.lent, n, founders, votes);
+        let at = |what: Difference| format!("open {n} {founders} {votes:?}: {what}");
         if number != wanted {
             return Err(at(format!("number {number}, must be {wanted}")));
         }

@@ -5,6 +5,7 @@ use crate::counts::Counts;
 use crate::halls;
 use crate::pair::{random_room, Difference, Pair};
 use crate::random::Random;
+use crate::rows;
 use reference::calls::ANSWER_LENGTH;
 use reference::stored::LENGTH;
 
@@ -42,7 +43,8 @@ pub fn opened(seed: u64, counts: &mut Counts) -> Result<(), Difference> {
     let mut pair = Pair::of_bytes(area, LENGTH + rest);
     let n = random.between(1, 8);
     let founders = random.below(1 << n) as u32;
-    pair.open(n, founders, counts)?;
+    let votes = rows::passing(&mut random, n);
+    pair.open(n, founders, votes, counts)?;
     let steps = random.between(500, 4_000);
     calls(&mut random, &mut pair, steps, counts)
 }
@@ -51,7 +53,7 @@ pub fn opened(seed: u64, counts: &mut Counts) -> Result<(), Difference> {
 pub fn odd(seed: u64, counts: &mut Counts) -> Result<(), Difference> {
     let mut random = Random::new("odd", seed);
     for _ in 0..40 {
-        let hall = halls::hall(&mut random);
+        let hall = halls::voting(&mut random);
         if !hall.check() {
             return Err("a random hall breaks a rule".to_string());
         }

@@ -1,15 +1,16 @@
 //! The calls of `include/hall.h` over the second implementation, right or with
-//! one of the mistakes here, in `numbers` and in `choices`, which HALL_FAULT
-//! names.
+//! one of the mistakes here, in `numbers`, in `choices` and in `votes`, which
+//! HALL_FAULT names.
 
 mod choices;
 mod numbers;
+mod votes;
 
 use reference::actions::judge_kind;
 use reference::calls::{self, ANSWER_LENGTH, WORDS};
 use reference::hall::{at_mark, Message};
 use reference::stored::{self, LENGTH};
-use reference::Hall;
+use reference::{Hall, Opening};
 use std::slice::{from_raw_parts, from_raw_parts_mut};
 use std::sync::OnceLock;
 
@@ -27,15 +28,29 @@ fn faulty(name: &str) -> bool {
 /// # Safety
 /// As in `include/hall.h`.
 #[no_mangle]
-pub unsafe extern "C" fn hall_open(hall: *mut u8, hall_len: usize, n: u32, founders: u32) -> u32 {
+pub unsafe extern "C" fn hall_open(
+    hall: *mut u8,
+    hall_len: usize,
+    n: u32,
+    founders: u32,
+    v1: u32,
+    v2: u32,
+    v3: u32,
+    v4: u32,
+    v5: u32,
+    v6: u32,
+    v7: u32,
+    v8: u32,
+) -> u32 {
     let hall = from_raw_parts_mut(hall, hall_len);
+    let row = [v1, v2, v3, v4, v5, v6, v7, v8];
     if faulty("18 before 16") && hall.len() < LENGTH {
         return 18;
     }
     if faulty("founders looked at as a byte") {
-        return calls::open(hall, n, founders & 255);
+        return calls::open(hall, n, founders & 255, row);
     }
-    let number = calls::open(hall, n, founders);
+    let number = votes::open(hall, n, founders, row);
     if faulty("the rest of the slice cleared") && number == 0 {
         hall[LENGTH..].fill(0);
     }
@@ -111,7 +126,10 @@ pub unsafe extern "C" fn hall_page(
     if let Some(number) = wrong_check(hall) {
         return number;
     }
-    let number = calls::page(hall, r, place, page);
+    let number = match votes::shown(hall) {
+        Some(shown) => calls::page(&shown, r, place, page),
+        None => calls::page(hall, r, place, page),
+    };
     if faulty("the margin of an outsider given as 0") && number == 0 && page[..4] == [0; 4] {
         page[12..16].fill(0);
     }
@@ -136,7 +154,16 @@ pub unsafe extern "C" fn hall_run_read(
     if faulty("18 before 19") && words.len() < ANSWER_LENGTH {
         return 18;
     }
-    let number = calls::run_read(file, words);
+    let number = match votes::misread(file) {
+        Some(read) => calls::run_read(&read, words),
+        None => calls::run_read(file, words),
+    };
+    if number == 0 {
+        votes::wrong_words(words);
+    }
+    if let Some(wrong) = votes::wrong_read(file, number) {
+        return wrong;
+    }
     if faulty("the first byte of the run as its start") && number == 0 {
         words[8] -= 16;
     }
@@ -180,6 +207,15 @@ pub unsafe extern "C" fn hall_run_write(
     file_len: usize,
     n: u32,
     founders: u32,
+    third: u32,
+    v1: u32,
+    v2: u32,
+    v3: u32,
+    v4: u32,
+    v5: u32,
+    v6: u32,
+    v7: u32,
+    v8: u32,
     actions: *const u32,
     actions_len: usize,
     words: *mut u8,
@@ -188,17 +224,28 @@ pub unsafe extern "C" fn hall_run_write(
     let file = from_raw_parts_mut(file, file_len);
     let actions = from_raw_parts(actions, actions_len);
     let words = from_raw_parts_mut(words, words_len);
+    let opening = Opening {
+        n,
+        founders,
+        third,
+        votes: [v1, v2, v3, v4, v5, v6, v7, v8],
+    };
+    if let Some(wrong) = votes::wrong_write(&opening, actions.len() / 4, file.len()) {
+        return wrong;
+    }
+    let opening = votes::miswritten(opening);
     if faulty("written without room for the answer") && words.len() < ANSWER_LENGTH {
         let mut room = [0; ANSWER_LENGTH];
-        let number = calls::run_write(file, (n, founders), actions, &mut room);
+        let number = calls::run_write(file, opening, actions, &mut room);
         return if number == 0 { 18 } else { number };
     }
     if faulty("19 before 16") && actions.len() / 4 > 4_094 {
         return 19;
     }
-    let number = calls::run_write(file, (n, founders), actions, words);
+    let number = calls::run_write(file, opening, actions, words);
     if faulty("the rest of the file cleared") && number == 0 {
-        file[32 + 16 * (actions.len() / 4)..].fill(0);
+        let votes = if third == 1 { 32 } else { 0 };
+        file[32 + votes + 16 * (actions.len() / 4)..].fill(0);
     }
     number
 }
@@ -226,7 +273,7 @@ fn too_strict(hall: &Hall) -> bool {
             })
         });
     }
-    numbers::too_strict(hall)
+    numbers::too_strict(hall) || votes::too_strict(hall)
 }
 
 /// Bytes made right that 01 refuses: a byte not looked at.
@@ -243,14 +290,14 @@ fn mended(bytes: &[u8]) -> Option<Vec<u8>> {
             recorder[1..4].fill(0);
         }
     } else if faulty("the last queue not looked at") {
-        mended[LENGTH - 145..LENGTH].fill(0);
+        mended[votes::AT - 145..votes::AT].fill(0);
     } else if faulty("a label's sequence without a view taken") {
         for entry in mended[163..803].chunks_exact_mut(10) {
             if entry[5..9] == [0; 4] {
                 entry[9] = 0;
             }
         }
-    } else {
+    } else if !votes::mend(&mut mended) {
         return None;
     }
     Some(mended)
@@ -258,6 +305,9 @@ fn mended(bytes: &[u8]) -> Option<Vec<u8>> {
 
 /// A wrong answer of the check: 31 for a hall, or 0 for what is none.
 fn wrong_check(bytes: &[u8]) -> Option<u32> {
+    if votes::short_hall_taken(bytes) && bytes.len() < LENGTH {
+        return Some(0);
+    }
     if bytes.len() < LENGTH {
         return faulty("a short hall is 18").then_some(18);
     }
@@ -274,6 +324,7 @@ fn step_of(old: &Hall, action: [u32; 4], bytes: &mut [u8], answer: &mut [u8]) ->
     let action = numbers::misread(old, action);
     numbers::wrong_number(old, action)
         .or_else(|| wrong_step(old, action, bytes, answer))
+        .or_else(|| votes::step(old, action, bytes, answer))
         .unwrap_or_else(|| choices::step(old, action, bytes, answer))
 }
 
