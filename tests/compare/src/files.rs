@@ -378,6 +378,11 @@ fn set_word(file: &mut [u8], at: usize, word: u32) {
     }
 }
 
+/// Changes the four words at an offset.
+fn set_block(file: &mut [u8], at: usize, words: [u32; 4]) {
+    file[at..at + BLOCK].copy_from_slice(words.map(u32::to_le_bytes).as_flattened());
+}
+
 /// Puts an opening block with third word 1 so near the end that no votes follow
 /// it, with a count that makes the distance right modulo 2^32.
 fn no_room_for_votes(random: &mut Random, file: &mut [u8]) {
@@ -387,10 +392,8 @@ fn no_room_for_votes(random: &mut Random, file: &mut [u8]) {
     };
     let trailer = file.len() - BLOCK;
     let (distance, count) = (16 * blocks as u32, (1 << 28) - 4 + blocks as u32);
-    let opening = [(0, 3), (4, 0), (8, 1), (12, 0)];
-    opening.map(|(at, word)| set_word(file, block + at, word));
-    let last = [(0, distance), (4, count), (8, 0), (12, 0)];
-    last.map(|(at, word)| set_word(file, trailer + at, word));
+    set_block(file, block, [3, 0, 1, 0]);
+    set_block(file, trailer, [distance, count, 0, 0]);
 }
 
 /// A third word, a count or votes that do not go with the rest of a file, or
