@@ -13,7 +13,7 @@ use crate::inner;
 use crate::inputs::{self, Run, Settle, Snapshot};
 use crate::plain;
 use reference::stored::{self, LENGTH};
-use reference::{open, Answer, Hall};
+use reference::{open_built_in, Answer, Hall};
 use std::hint::black_box;
 use std::path::PathBuf;
 use std::process::{Command, Stdio};
@@ -93,7 +93,7 @@ pub fn bench_part_ends() {
 
 /// Which actions of a run have a kind.
 fn places(run: &Run, wanted: &str) -> Vec<usize> {
-    let mut hall = open(run.n, run.founders).expect("the opening is taken");
+    let mut hall = open_built_in(run.n, run.founders).expect("the opening is taken");
     let mut places = Vec::new();
     for (place, &[k, r, a, b]) in run.actions.iter().enumerate() {
         if kind(k, hall.step(k, r, a, b)) == Some(wanted) {
@@ -108,7 +108,7 @@ fn places(run: &Run, wanted: &str) -> Vec<usize> {
 
 /// The stored forms of the halls before these actions.
 fn halls_before(run: &Run, places: &[usize]) -> Vec<Vec<u8>> {
-    let mut hall = open(run.n, run.founders).expect("the opening is taken");
+    let mut hall = open_built_in(run.n, run.founders).expect("the opening is taken");
     let mut halls = Vec::new();
     let mut wanted = places.iter().peekable();
     for (place, &[k, r, a, b]) in run.actions.iter().enumerate() {
@@ -132,7 +132,7 @@ fn library_part<'a>(halls: &[Vec<u8>], actions: impl Fn(usize) -> &'a [[u32; 4]]
 
 /// A part: the run in memory, in which these actions are counted.
 fn rust_part(run: &Run, places: &[usize]) {
-    let mut hall = open(run.n, run.founders).expect("the opening is taken");
+    let mut hall = open_built_in(run.n, run.founders).expect("the opening is taken");
     let mut counted = places.iter().peekable();
     for (place, action) in run.actions.iter().enumerate() {
         if counted.next_if_eq(&&place).is_some() {

@@ -5,10 +5,12 @@ use compare::actions::{self, Weights};
 use compare::halls;
 use compare::library::Lent;
 use compare::random::Random;
-use reference::hall::{Entry, Label, Message, Phase, Queued, Recorder, Seat, Summary, View};
+use reference::hall::{
+    Entry, Label, Message, Phase, Queued, Recorder, Seat, Summary, View, MOST_VOTES,
+};
 use reference::runfile::MOST_ACTIONS;
 use reference::stored::{self, LENGTH};
-use reference::{open, write_run_file, Answer, Hall};
+use reference::{open_built_in, write_run_file, Answer, Hall, Opening};
 
 /// An opening and actions, at most as many as a run file takes.
 pub struct Run {
@@ -22,7 +24,7 @@ impl Run {
     /// Random actions, as many as a run file takes.
     pub fn random(n: u32, seed: u64) -> Run {
         let mut random = Random::new("bench", seed);
-        let mut hall = open(n, 0).expect("the opening is taken");
+        let mut hall = open_built_in(n, 0).expect("the opening is taken");
         let weights = Weights::random(&mut random);
         let mut actions = Vec::new();
         while actions.len() < MOST_ACTIONS {
@@ -67,7 +69,8 @@ impl Run {
     /// The run file of the first actions.
     pub fn file(&self, count: usize) -> Vec<u8> {
         let mut bytes = vec![0; 65_536];
-        let length = write_run_file(self.n, self.founders, &self.actions[..count], &mut bytes);
+        let opening = Opening::built_in(self.n, self.founders);
+        let length = write_run_file(opening, &self.actions[..count], &mut bytes);
         bytes.truncate(length.expect("the run fits"));
         bytes
     }
@@ -82,7 +85,7 @@ struct Going {
 impl Going {
     fn open() -> Going {
         Going {
-            hall: open(8, 255).expect("the opening is taken"),
+            hall: open_built_in(8, 255).expect("the opening is taken"),
             taken: Vec::new(),
         }
     }
@@ -179,12 +182,12 @@ fn snapshot(hall: &Hall) -> Snapshot {
 
 /// A hall that was just opened for all recorders.
 fn empty_hall(n: u32) -> Snapshot {
-    snapshot(&open(n, 0).expect("the opening is taken"))
+    snapshot(&open_built_in(n, 0).expect("the opening is taken"))
 }
 
 /// Halls along a run, evenly spread.
 pub fn along(run: &Run, count: usize) -> Vec<Snapshot> {
-    let mut hall = open(run.n, run.founders).expect("the opening is taken");
+    let mut hall = open_built_in(run.n, run.founders).expect("the opening is taken");
     let stride = run.actions.len() / count;
     let mut snapshots = Vec::new();
     for (place, &[k, r, a, b]) in run.actions.iter().enumerate() {
@@ -259,6 +262,7 @@ fn full_hall() -> Snapshot {
             .collect(),
         views: (0..32).map(view).collect(),
         recorders: vec![recorder; 8],
+        votes: [MOST_VOTES; 8],
     })
 }
 

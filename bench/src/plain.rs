@@ -7,6 +7,7 @@ const ENTRIES: usize = 163;
 const RECORDERS: usize = 803;
 const PLACES: usize = 3_091;
 const QUEUES: usize = 55_059;
+const VOTES: usize = 59_699;
 
 /// What the lists, sets and places are held to.
 struct Facts<'a> {
@@ -53,6 +54,13 @@ fn views_fit(bytes: &[u8], n: usize, formed: usize) -> bool {
         last = number;
     }
     blank(&bytes[2 + 5 * formed..162])
+}
+
+/// Whether each vote is at most 1,000, and 0 above N, and one is not 0.
+fn votes_fit(bytes: &[u8], n: usize) -> bool {
+    let within = &bytes[VOTES..VOTES + 4 * n];
+    let in_range = |vote: &[u8]| word(vote, 0) <= 1_000;
+    within.chunks_exact(4).all(in_range) && !blank(within) && blank(&bytes[VOTES + 4 * n..])
 }
 
 impl Facts<'_> {
@@ -186,7 +194,7 @@ pub fn is_hall(slice: &[u8]) -> bool {
     if !(1..=8).contains(&n) || formed > 32 || count > 64 {
         return false;
     }
-    if !views_fit(bytes, n, formed) || !entries_fit(bytes, n, count) {
+    if !views_fit(bytes, n, formed) || !entries_fit(bytes, n, count) || !votes_fit(bytes, n) {
         return false;
     }
     let mut labelled = [false; 256];
@@ -204,7 +212,7 @@ pub fn is_hall(slice: &[u8]) -> bool {
         && (1..=n).all(|p| facts.row_fits(p))
         && blank(&bytes[PLACES + 6_496 * n..QUEUES])
         && (0..formed).all(|i| facts.queue_fits(i))
-        && blank(&bytes[QUEUES + 145 * formed..])
+        && blank(&bytes[QUEUES + 145 * formed..VOTES])
 }
 
 /// FNV-1a over 64 bits.

@@ -8,7 +8,7 @@ use crate::table::{Table, Unit};
 use compare::library::{self, Lent};
 use reference::calls::{self, ANSWER_LENGTH};
 use reference::stored::{self, LENGTH};
-use reference::{open, Hall};
+use reference::{built_in_votes, open_built_in, Hall};
 use std::cell::RefCell;
 use std::hint::black_box;
 use std::path::Path;
@@ -16,7 +16,8 @@ use std::path::Path;
 /// A slice for the library, with a hall opened in it.
 fn opened(run: &Run) -> Lent {
     let mut lent = Lent::new(&[0; LENGTH], LENGTH);
-    assert_eq!(library::open(&mut lent, run.n, run.founders), 0);
+    let votes = built_in_votes(run.n);
+    assert_eq!(library::open(&mut lent, run.n, run.founders, votes), 0);
     lent
 }
 
@@ -34,7 +35,8 @@ fn library_steps(run: &Run) -> Vec<u8> {
 /// checks, steps, and writes them all.
 fn rust_steps(run: &Run) -> Vec<u8> {
     let mut hall = vec![0; LENGTH];
-    assert_eq!(calls::open(&mut hall, run.n, run.founders), 0);
+    let votes = built_in_votes(run.n);
+    assert_eq!(calls::open(&mut hall, run.n, run.founders, votes), 0);
     let mut answer = [0; ANSWER_LENGTH];
     for &action in &run.actions {
         black_box(calls::step(&mut hall, action, &mut answer));
@@ -45,7 +47,7 @@ fn rust_steps(run: &Run) -> Vec<u8> {
 /// The least that Rust can do: the check in place, on the nearest of the halls
 /// along the run, and the step on a hall that is kept in memory.
 fn rust_least_steps(run: &Run, along: &[Snapshot]) -> Vec<u8> {
-    let mut hall = open(run.n, run.founders).expect("the opening is taken");
+    let mut hall = open_built_in(run.n, run.founders).expect("the opening is taken");
     let stride = run.actions.len().div_ceil(along.len());
     for (place, &[k, r, a, b]) in run.actions.iter().enumerate() {
         black_box(plain::is_hall(black_box(along[place / stride].lent.area())));
@@ -114,7 +116,7 @@ fn compare_inner(
 pub fn inner_steps(passes: u32, runs: &[Run]) -> Table {
     let mut table = Table::new("Inner step: nanoseconds a call", Unit::Nanoseconds, passes);
     for run in runs {
-        let start = open(run.n, run.founders).expect("the opening is taken");
+        let start = open_built_in(run.n, run.founders).expect("the opening is taken");
         let name = format!("step, {} without check: step in memory", run.name);
         compare_inner(&mut table, name, run.actions.len(), &start, &run.actions);
     }
