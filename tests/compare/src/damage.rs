@@ -215,7 +215,7 @@ fn may_stand(n: u32, votes: Votes) -> bool {
 }
 
 /// A step and a page on a hall whose votes are changed: 31 exactly if they may
-/// not stand there. The step forms a view, which may be entered.
+/// not stand there. The step forms a view.
 fn votes_changed(
     pair: &mut Pair,
     form: &[u8],

@@ -4,7 +4,7 @@ use crate::counts::Counts;
 use crate::pair::{Difference, Pair};
 use crate::random::Random;
 use crate::rows::{any as any_row, equal, with_vote, EDGES};
-use reference::hall::{built_in_votes, MOST_VOTES};
+use reference::hall::{built_in_votes, Votes, MOST_VOTES};
 use reference::stored::LENGTH;
 
 /// Every N to 9 with every founders word of up to nine recorders.
@@ -23,7 +23,7 @@ pub fn all(_: u64, counts: &mut Counts) -> Result<(), Difference> {
 fn with_row(
     pairs: &mut [Pair; 2],
     n: u32,
-    row: [u32; 8],
+    row: Votes,
     counts: &mut Counts,
 ) -> Result<(), Difference> {
     for pair in pairs {
