@@ -4,6 +4,7 @@ pub mod Refused
 pub mod Runs
 pub mod Agreement
 pub mod Unshifted
+pub mod VotesStay
 pub mod ByKindLaws
 pub mod WrongPrograms
 pub mod ByteCards
