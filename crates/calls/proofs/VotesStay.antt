@@ -19,7 +19,6 @@ use Rattle.model.specs.Call.{Words, WordsIn, hl3}
 use Rattle.model.specs.Run.{run}
 use Rattle.model.proofs.Kept.{votes-run}
 use Rattle.store.specs.Layout.{storedLength}
-use Rattle.store.specs.Valid.{InRange, ValidHall}
 use Rattle.store.specs.StoredForm.{stored, hallOf, isStored}
 use Rattle.store.proofs.StoredFormLaws.{hallOf-stored, hallOf-valid, stored-hallOf}
 use Rattle.store.proofs.KeepRules.{facts-of}

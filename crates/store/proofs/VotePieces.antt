@@ -1,7 +1,6 @@
 -- The votes of a hall as eight cells, and as eight vote words. Assumes nothing.
 use Prim.Native.Nat.{ℕ, zero, suc, _+_, _-_, _*_, _≤_, _<_}
 use native.Mathlib.Omega.{arith}
-use native.Mathlib.Numerals.{add-one}
 use mathlib.Core.Path.{_≡_, refl, sym, ap, subst, _∙_, fun-ext}
 use mathlib.Core.Logic.{inl, inr, ⊎-elim}
 use mathlib.Core.Bool.{false}
@@ -16,7 +15,7 @@ use Rattle.quorum.specs.Votes.{rowOf, wrongRow}
 use Rattle.quorum.proofs.VoteLaws.{Right, right-taken, row-at, row-none, listed-row}
 use Rattle.model.specs.Hall.{Hall, maxRecorders}
 use Rattle.model.specs.Opening.{rowIn}
-use Rattle.codec.specs.Form.{Form, mapped}
+use Rattle.codec.specs.Form.{mapped}
 use Rattle.codec.specs.Table.{table}
 use Rattle.codec.proofs.Piece.{View, Piece, inner-view, restated-view}
 use Rattle.codec.proofs.TableLaws.{at-key, numbers-distinct, index-numbers, table-grow}

@@ -1,5 +1,4 @@
 -- By whether there is such a recorder, and by which. Assumes nothing.
-use mathlib.Core.Path.{_≡_, refl}
 use borrow.Author.Tests.{lt-leb, le-leb, eq-eqb, ne-eqb}
 use Rattle.quorum.specs.Votes.{share, builtIn}
 use Rattle.quorum.proofs.built_in.Statement.{statement}

@@ -1,6 +1,6 @@
 -- One recorder after another. Assumes nothing.
 use mathlib.Core.Path.{refl, ap₂}
-use mathlib.Core.List.{_∷_, [], map}
+use mathlib.Core.List.{_∷_}
 use Rattle.base.specs.Numbers.{upTo}
 use Rattle.quorum.specs.Votes.{builtInRow}
 use borrow.Author.Needs.{needs}
