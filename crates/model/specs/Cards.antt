@@ -1,5 +1,5 @@
--- The P cards of 01's "Bench cards", and the margins, view numbers, representative and rows that 02 names, one list; the proof
--- over it is in proofs/Cards. A card is what the definitions give and what 01 or 02 says, as lists of numbers.
+-- The P cards of 01's "Bench cards", and the margins, view numbers, representative, rows and settles that 02 names, one list; the
+-- proof over it is in proofs/Cards. A card is what the definitions give and what 01 or 02 says, as lists of numbers.
 -- Assumes nothing.
 use Prim.Native.Nat.{ℕ}
 use mathlib.Core.Bool.{true, false}
@@ -14,6 +14,7 @@ use Rattle.model.specs.Refusals.{rulesOf}
 use Rattle.model.specs.Opening.{Opening, openingOf, builtInOpening, openRefusal, opened}
 use Rattle.model.specs.Call.{Words, wordsOf, hl3, broken, step, call}
 use Rattle.model.specs.Run.{run, answers}
+use Rattle.model.specs.Settle.{settle, plainSettle}
 use Rattle.model.specs.RunFile.{FileOpening, rowGiven, RunText, fileBytes}
 use Rattle.model.specs.Listing.{listing}
 
@@ -285,6 +286,28 @@ safeCard =
       wanted = 0 ∷ 0 ∷ 0 ∷ 0 ∷ 0 ∷ 39 ∷ [];
     }
 
+-- what a settle answers after these calls: the count, or the refusal's number
+unfoldable pub settleNumbers : Opening → List Words → List ℕ
+settleNumbers o ws = let x = plainSettle (settle hl3 (run hl3 (opened o) ws)) in x .number ∷ x .values
+
+-- one entry at each of three recorders
+unfoldable pub threeSubmits : List Words
+threeSubmits = wordsOf 1 1 5 0 ∷ wordsOf 1 2 6 0 ∷ wordsOf 1 3 7 0 ∷ []
+
+-- a settle (02, A5): one entry in a hall of one recorder takes 7 steps, one at each of three recorders 45, and 36 in a new view
+-- of 1 and 2; a hall in which nothing was submitted is settled; view 3 = {2, 3} after view 2 = {1, 2} is not primary
+unfoldable pub settleCard : Card
+settleCard =
+    record {
+      given =
+          settleNumbers (builtInOpening 1 1) (wordsOf 1 1 5 0 ∷ [])
+          ++ (settleNumbers (builtInOpening 3 7) threeSubmits
+          ++ (settleNumbers (builtInOpening 3 7) (threeSubmits ++ (wordsOf 5 0 2 3 ∷ []))
+          ++ (settleNumbers (builtInOpening 3 7) []
+          ++ settleNumbers (builtInOpening 3 7) (wordsOf 5 0 2 3 ∷ wordsOf 5 0 3 6 ∷ []))));
+      wanted = 0 ∷ 7 ∷ 0 ∷ 45 ∷ 0 ∷ 36 ∷ 0 ∷ 0 ∷ 42 ∷ [];
+    }
+
 unfoldable pub cards : List Card
 cards =
     listingCard
@@ -302,4 +325,5 @@ cards =
     ∷ labelCard
     ∷ orderCard
     ∷ safeCard
+    ∷ settleCard
     ∷ []

@@ -11,6 +11,7 @@ pub mod Opening
 pub mod Page
 pub mod Call
 pub mod Run
+pub mod Settle
 pub mod Agreed
 pub mod Unshifted
 pub mod RunFile

@@ -31,3 +31,6 @@ pub const MAX_ACTIONS: usize = MAX_FILE / BLOCK - 2;
 pub const VOTE_BLOCKS: usize = 2;
 
 pub const MAX_ACTIONS_WITH_VOTES: usize = MAX_ACTIONS - VOTE_BLOCKS;
+
+// more turns than any settle takes (02, A5; specs/Settle)
+pub const MAX_TURNS: usize = 3000;

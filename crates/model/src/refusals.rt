@@ -40,3 +40,5 @@ pub const NOTHING: u32 = 38;
 pub const NOT_YET: u32 = 39;
 // a list, the sequence number or the summary's place is full, or the new label exists already
 pub const FULL: u32 = 40;
+// the greatest view is missing or not primary (02, A5)
+pub const NOT_PRIMARY: u32 = 42;
