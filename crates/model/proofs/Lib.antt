@@ -7,6 +7,7 @@ pub mod Accepting
 pub mod Kept
 pub mod Margins
 pub mod Agreement
+pub mod Settling
 pub mod Computing
 pub mod Cards
 pub mod EndCounts

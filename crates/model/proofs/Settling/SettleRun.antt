@@ -1,0 +1,77 @@
+-- A settle is the run of its calls, every one accepted (02, A5: "the number of steps of the run it stands for"); a list of calls
+-- with settles among them is a run.
+-- Assumes nothing.
+use Prim.Native.Nat.{ℕ, zero, suc}
+use mathlib.Core.Path.{_≡_, refl, sym, ap, _∙_, subst}
+use mathlib.Core.Bool.{Bool, true, false}
+use mathlib.Core.List.{List, [], _∷_, _++_}
+use borrow.Author.Tests.{eq-eqb}
+use Rattle.base.specs.Lists.{Each}
+use Rattle.model.specs.Hall.{Hall}
+use Rattle.model.specs.Answers.{Answer, plain, accepted}
+use Rattle.model.specs.Refusals.{Rules}
+use Rattle.model.specs.Actions.{Outcome}
+use Rattle.model.specs.Opening.{Opening, openRefusal, opened}
+use Rattle.model.specs.Call.{Words, hl3, step}
+use Rattle.model.specs.Run.{run, answers, history}
+use Rattle.model.specs.Settle.{greatestView, cannotSettle, Turn, takes, full, none, turn, turnOf, settleCalls, Settling, settled, refused, andThen, maxTurns, settleFrom, settle, Call, standsFor, callsOf, runCalls}
+use Rattle.model.specs.Agreed.{FairRules, Agreed}
+use Rattle.model.proofs.Agreement.Theorem.{agreement}
+use Rattle.model.proofs.Settling.TurnLaws.{Finds, finds}
+
+-- each call of a run is accepted
+abbrev pub AllAccepted : Rules → Hall → List Words → Type 0
+AllAccepted rules h [] = Unit {0}
+AllAccepted rules h (w ∷ ws) = (accepted (step rules h w .answer) ≡ true) × AllAccepted rules (step rules h w .hall) ws
+
+-- what a settle that gives x owes
+unfoldable pub Runs : Rules → Hall → Settling → Type 0
+Runs rules h (settled ws) = AllAccepted rules h ws
+Runs rules h (refused n) = Unit {0}
+
+and-then : (rules : Rules) (h : Hall) (w : Words) → accepted (step rules h w .answer) ≡ true → (x : Settling)
+    → Runs rules (step rules h w .hall) x → Runs rules h (andThen w x)
+unfolding Runs andThen
+and-then rules h w t (settled ws) r = (t, r)
+and-then rules h w t (refused n) r = tt
+
+from-runs : (rules : Rules) (n g : ℕ) (h : Hall) → Runs rules h (settleFrom rules n g h)
+unfolding Runs settleFrom Finds accepted turnOf
+from-runs rules zero g h = tt
+from-runs rules (suc n) g h = go (λ h. from-runs rules n g h) (turnOf rules h g) (finds rules h g (settleCalls g (h .service .members g)))
+  where
+    go : ((h : Hall) → Runs rules h (settleFrom rules n g h)) → (t : Turn) → Finds rules h g (settleCalls g (h .service .members g)) t
+        → Runs rules h (elim t [ takes w ↦ andThen w (settleFrom rules n g (step rules h w .hall)) | full ↦ refused 40 | none ↦ settled [] ])
+    go ih (takes w) f = and-then rules h w (eq-eqb _ 0 (f .number)) (settleFrom rules n g (step rules h w .hall)) (ih (step rules h w .hall))
+    go ih full f = tt
+    go ih none f = tt
+
+-- every call that a settle stands for is accepted, in turn
+pub settle-run : (rules : Rules) (h : Hall) → Runs rules h (settle rules h)
+unfolding settle Runs
+settle-run rules h = go (cannotSettle h)
+  where
+    go : (t : Bool) → Runs rules h (elim t [ true ↦ refused 42 | false ↦ settleFrom rules maxTurns (greatestView h) h ])
+    go true = tt
+    go false = from-runs rules maxTurns (greatestView h) h
+
+-- ## Lists of calls
+
+pub run-append : (rules : Rules) (h : Hall) (xs ys : List Words) → run rules h (xs ++ ys) ≡ run rules (run rules h xs) ys
+unfolding run
+run-append rules h [] ys = refl
+run-append rules h (x ∷ xs) ys = run-append rules (step rules h x .hall) xs ys
+
+-- calls, settles among them, leave the hall of the run that they stand for
+pub calls-run : (rules : Rules) (h : Hall) (cs : List Call) → runCalls rules h cs ≡ run rules h (callsOf rules h cs)
+unfolding runCalls callsOf run
+calls-run rules h [] = refl
+calls-run rules h (c ∷ cs) =
+    let ws = standsFor rules h c in
+    let h′ = run rules h ws in
+    calls-run rules h′ cs ∙ sym (run-append rules h ws (callsOf rules h′ cs))
+
+-- demand 3 of any list of calls, settles among them: that of the run
+pub calls-agreement : (rules : Rules) → FairRules rules → (o : Opening) → openRefusal o ≡ 0 → (cs : List Call)
+    → Agreed (history rules (opened o) (callsOf rules (opened o) cs)) × (runCalls rules (opened o) cs ≡ run rules (opened o) (callsOf rules (opened o) cs))
+calls-agreement rules fair o taken cs = (agreement rules fair o taken (callsOf rules (opened o) cs), calls-run rules (opened o) cs)

@@ -1,0 +1,2 @@
+-- A sent summary stands once among its source's queued and pending messages, an unsent one nowhere.
+-- Assumes nothing.
