@@ -2,17 +2,18 @@
 -- for, and lists of calls with settles among them.
 -- Assumes nothing.
 use Prim.Native.Nat.{ℕ, zero, suc}
+use mathlib.Core.Path.{_≡_}
 use mathlib.Core.Bool.{Bool, true, false, not, _||_}
 use mathlib.Core.List.{List, [], _∷_, _++_, map}
 use lib.Dec.{eqb}
 use lib.ListN.{length}
-use Rattle.base.specs.Lists.{greatest}
+use Rattle.base.specs.Lists.{greatest, has}
 use Rattle.model.specs.Hall.{Hall}
 use Rattle.model.specs.Answers.{Plain, plain}
 use Rattle.model.specs.Refusals.{Rules, isPrimary}
 use Rattle.model.specs.Actions.{Outcome}
 use Rattle.model.specs.Call.{Words, wordsOf, step}
-use Rattle.model.specs.Run.{run}
+use Rattle.model.specs.Run.{run, ofItems, History}
 
 -- "the view with the greatest number": the greatest formed number, 0 for none
 unfoldable pub greatestView : Hall → ℕ
@@ -72,7 +73,7 @@ unfoldable pub andThen : Words → Settling → Settling
 andThen w (settled ws) = settled (w ∷ ws)
 andThen w (refused n) = refused n
 
--- more turns than any settle of a hall in range takes (proofs/SettleEnds)
+-- more turns than a settle of any hall in range takes (proofs in crates/progress)
 abbrev pub maxTurns : ℕ
 maxTurns = 3000
 
@@ -90,6 +91,10 @@ settleFrom rules (suc n) g h =
 unfoldable pub settle : Rules → Hall → Settling
 settle rules h = elim (cannotSettle h) [ true ↦ refused 42 | false ↦ settleFrom rules maxTurns (greatestView h) h ]
 
+-- "at most 2,392 on a hall so reached" (proofs in crates/progress)
+abbrev pub maxSteps : ℕ
+maxSteps = 2392
+
 -- the calls of the run that a settle stands for: none if it is refused
 unfoldable pub callsTaken : Settling → List Words
 callsTaken (settled ws) = ws
@@ -99,6 +104,10 @@ callsTaken (refused n) = []
 unfoldable pub plainSettle : Settling → Plain
 plainSettle (settled ws) = record { number = 0; values = length ws ∷ [] }
 plainSettle (refused n) = record { number = n; values = [] }
+
+-- "every entry submitted at a member has then been delivered at all members": of what a run leaves, for the members ms
+abbrev pub Complete : History → List ℕ → Type 0
+Complete left ms = (s p : ℕ) → has ms s ≡ true → has ms p ≡ true → ofItems s (left .delivered p) ≡ left .submitted s
 
 -- ## Calls, settles among them
 
