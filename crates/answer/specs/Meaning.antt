@@ -1,9 +1,10 @@
 -- What an answer of the code means, by cases. "For an answer that is an enum, a definition gives this paper's number and
 -- values for each of its cases." Assumes nothing.
 use mathlib.Core.Path.{_≡_}
+use mathlib.Core.List.{List, [], _∷_}
 use Rattle.model.specs.Payloads.{payloadMeaning}
 use Rattle.model.specs.Answers as model
-use Rattle.model.specs.Answers.{plain}
+use Rattle.model.specs.Answers.{Plain, plain}
 use Rattle.model.specs.Page as modelPage
 use Rattle.model.specs.Page.{plainPage}
 use Rattle.answer.specs.declared.Content.{Content}
@@ -13,6 +14,8 @@ use Rattle.answer.specs.declared.PlainAnswer.{PlainAnswer}
 use Rattle.answer.specs.declared.Page.{Page}
 use Rattle.answer.specs.declared.PageAnswer.{PageAnswer}
 use Rattle.answer.specs.declared.PlainPage.{PlainPage}
+use Rattle.answer.specs.declared.Settled.{Settled}
+use Rattle.answer.specs.declared.PlainSettled.{PlainSettled}
 
 unfoldable pub contentMeaning : Content → model.Content
 contentMeaning (Content.Entry e) = model.entry (e .view) (e .seq) (e .sender) (payloadMeaning (e .payload))
@@ -54,3 +57,12 @@ pageMeaning (PageAnswer.Refused k) = modelPage.refused k
 pub record SaysPage (a : PageAnswer) (p : PlainPage) : Type 0 where
   pub number : p .number ≡ plainPage (pageMeaning a) .number
   pub values : p .values ≡ plainPage (pageMeaning a) .values
+
+-- a settle's answer
+unfoldable pub settledMeaning : Settled → Plain
+settledMeaning (Settled.Count n) = record { number = 0; values = n ∷ [] }
+settledMeaning (Settled.Refused k) = record { number = k; values = 0 ∷ [] }
+
+pub record SaysSettled (a : Settled) (p : PlainSettled) : Type 0 where
+  pub number : p .number ≡ settledMeaning a .number
+  pub values : p .values ≡ settledMeaning a .values

@@ -1,7 +1,7 @@
 // The answers of a call as values, and the same in plain numbers (specs/Meaning.antt).
 ghost use mathlib.Core.Path.{_≡_};
 ghost use Rattle.model.specs.Answers.{accepted, word};
-ghost use Rattle.answer.specs.Meaning.{meaning, SaysAnswer, SaysPage};
+ghost use Rattle.answer.specs.Meaning.{meaning, SaysAnswer, SaysPage, SaysSettled};
 use model::payload::Payload;
 
 // An entry, with its label and payload.
@@ -163,6 +163,33 @@ pub fn plain_page(a: PageAnswer) -> PlainPage
         PageAnswer::Refused(k) => PlainPage {
             number: k,
             values: [0; 13],
+        },
+    }
+}
+
+// The answer of a settle (02, A5): the count of accepted steps, or the refusal's number.
+pub enum Settled {
+    Count(u32),
+    Refused(u32),
+}
+
+// The same in plain numbers.
+pub struct PlainSettled {
+    pub number: u32,
+    pub values: [u32; 1],
+}
+
+pub fn plain_settled(a: Settled) -> PlainSettled
+    ensures { λ r. ⌜ SaysSettled a r ⌝ }
+{
+    match a {
+        Settled::Count(n) => PlainSettled {
+            number: 0,
+            values: [n],
+        },
+        Settled::Refused(k) => PlainSettled {
+            number: k,
+            values: [0],
         },
     }
 }

@@ -5,34 +5,38 @@ use Prim.Native.Nat.{ℕ, _^_, _≤_, _<_}
 use native.Mathlib.Omega.{arith}
 use mathlib.Core.Path.{_≡_, refl, sym, ap, ap₂, _∙_, subst}
 use mathlib.Core.Logic.{_⊎_, inl, inr, ⊎-elim}
-use mathlib.Core.Bool.{true}
+use mathlib.Core.Bool.{Bool, true, false}
 use mathlib.Core.List.{List, [], _∷_, _++_, map}
 use lib.Dec.{eqb, ltb}
 use lib.ListN.{length, drop}
 use lib.Seq.{sets, sets-eq}
 use borrow.Author.Tests.{eqb-true, eqb-false, eq-eqb, ne-eqb, ltb-true, ltb-false}
 use Rattle.base.proofs.Bools.{by-cases, and-true}
-use Rattle.model.specs.Hall.{Entries, Hall, Payload}
+use Rattle.base.proofs.Greatest.{greatest-least}
+use Rattle.model.specs.Hall.{maxNumber, Entries, Hall, Payload}
 use Rattle.model.specs.Answers.{Answer, from, Plain, plain, accepted}
 use Rattle.model.specs.Refusals.{orderAt}
 use Rattle.model.specs.Opening.{Opening}
 use Rattle.model.specs.Call.{Words, WordsIn, hl3, step}
 use Rattle.model.specs.Run.{accepts}
+use Rattle.model.specs.Settle.{greatestView, Settling, settle, callsTaken}
 use Rattle.model.specs.Agreed.{Agreed}
 use Rattle.model.proofs.Accepting.Accepted.{accepts-deliver}
+use Rattle.model.proofs.Settling.SettleRun.{settle-words}
 use Rattle.codec.specs.Bytes.{part, zeros}
 use Rattle.codec.specs.Number.{digits, value}
 use Rattle.codec.proofs.NumberLaws.{value-digits}
 use Rattle.store.specs.Valid.{PayloadIn, EntriesIn, ValidHall}
-use Rattle.store.specs.StoredForm.{stored}
+use Rattle.store.specs.StoredForm.{stored, hallOf, isStored}
+use Rattle.store.proofs.StoredFormLaws.{hallOf-valid}
 use Rattle.store.proofs.KeepFacts.{inside?}
 use Rattle.store.proofs.KeepValid.{payloads-in}
-use Rattle.calls.specs.Calls.{stepOn, openOn, runOn}
+use Rattle.calls.specs.Calls.{stepOn, openOn, runOn, settlingOn, SettleOutcome, settleOn}
 use Rattle.calls.specs.Steps.{Steps}
-use Rattle.calls.specs.Lent.{answerLength, wordsBytes, answerBytes, withAnswer, Lent, stepLent, Leaves}
-use Rattle.calls.specs.Histories.{Made, historyOf, Opens, madeOn, historyOn, StepCall, StepsMet, stepsLeft, stepsMade, LentCall, LentMet, lentLeft, wordIn, deliverIn, lentMade}
+use Rattle.calls.specs.Lent.{answerLength, wordsBytes, answerBytes, withAnswer, Lent, stepLent, settleLent, Leaves}
+use Rattle.calls.specs.Histories.{Made, historyOf, Opens, madeOn, historyOn, settleMade, StepCall, SettleCall, HallCall, steps, settles, StepsMet, stepWords, stepsLeft, stepsMade, LentStep, LentSettle, LentCall, LentMet, lentWords, lentLeft, wordIn, deliverIn, lentMade}
 use Rattle.calls.proofs.RunLaw.{step-stored}
-use Rattle.calls.proofs.Refused.{lent-refused, lent-short, lent-done}
+use Rattle.calls.proofs.Refused.{lent-refused, lent-short, lent-done, lent-taken, refused-keeps}
 use Rattle.calls.proofs.Runs.{Performs, Turned, Sound, sound-agree}
 
 -- ## Calls of the definition
@@ -55,12 +59,44 @@ agreement-on b o t ws low =
     let c = openOn b o .bytes in
     sound-agree b o t (madeOn c ws) (runOn c ws) (subst WordsIn (sym (made-words c ws)) low) (made-sound c ws)
 
--- ## Calls of `open` and `step`
+-- ## Settles: the steps of their runs
 
-steps-sound : (b : List ℕ) (cs : List StepCall) → StepsMet b cs → Sound b (stepsMade b cs) (stepsLeft b cs)
+sound-append : (b : List ℕ) (ms : List Made) (c : List ℕ) (ns : List Made) (d : List ℕ) → Sound b ms c → Sound c ns d → Sound b (ms ++ ns) d
+sound-append b [] c ns d s t = subst (λ (x : List ℕ). Sound x ns d) s t
+sound-append b (m ∷ ms) c ns d s t = (s .0, sound-append (m .after) ms c ns d (s .1) t)
+
+-- a view's number is a 32-bit word
+view-word : (h : Hall) → ValidHall h → greatestView h < 2 ^ 32
+unfolding greatestView
+view-word h v = let low = greatest-least (λ g. g) (h .service .created) maxNumber (v .inRange .views .numberIn) in omega (arith, low)
+
+settle-low : (b : List ℕ) → WordsIn (callsTaken (settlingOn b))
+unfolding settlingOn callsTaken
+settle-low b = go (isStored b) refl
+  where
+    go : (t : Bool) → isStored b ≡ t → WordsIn (callsTaken (elim t [ true ↦ settle hl3 (hallOf b) | false ↦ Settling.refused 31 ]))
+    go true t = settle-words hl3 (hallOf b) (view-word (hallOf b) (hallOf-valid b t))
+    go false t = tt
+
+words-append : (xs ys : List Made) → WordsIn (map (λ (m : Made). m .words) xs) → WordsIn (map (λ (m : Made). m .words) ys)
+    → WordsIn (map (λ (m : Made). m .words) (xs ++ ys))
+words-append [] ys p q = q
+words-append (x ∷ xs) ys p q = (p .0, words-append xs ys (p .1) q)
+
+settle-made-words : (b : List ℕ) → WordsIn (map (λ (m : Made). m .words) (settleMade b))
+unfolding settleMade
+settle-made-words b = subst WordsIn (sym (made-words b (callsTaken (settlingOn b)))) (settle-low b)
+
+settle-made-sound : (b c : List ℕ) → c ≡ settleOn b .bytes → Sound b (settleMade b) c
+unfolding settleMade settleOn
+settle-made-sound b c e = subst (Sound b (settleMade b)) (sym e) (made-sound b (callsTaken (settlingOn b)))
+
+-- ## Calls of `open`, `step` and `settle`
+
+steps-sound : (b : List ℕ) (cs : List HallCall) → StepsMet b cs → Sound b (stepsMade b cs) (stepsLeft b cs)
 unfolding stepsMade stepsLeft
 steps-sound b [] met = refl
-steps-sound b (c ∷ cs) met = (
+steps-sound b (steps c ∷ cs) met = (
   inl (record {
     before = refl;
     taken = ap accepted (met .0 .answer);
@@ -69,22 +105,25 @@ steps-sound b (c ∷ cs) met = (
   }),
   steps-sound (c .bytes) cs (met .1),
 )
+steps-sound b (settles c ∷ cs) met =
+    sound-append b (settleMade b) (c .bytes) (stepsMade (c .bytes) cs) (stepsLeft (c .bytes) cs)
+    (settle-made-sound b (c .bytes) (met .0 .bytes)) (steps-sound (c .bytes) cs (met .1))
 
-steps-words : (b : List ℕ) (cs : List StepCall) → map (λ (m : Made). m .words) (stepsMade b cs) ≡ map (λ (c : StepCall). c .words) cs
-unfolding stepsMade
-steps-words b [] = refl
-steps-words b (c ∷ cs) = ap (λ (l : List Words). c .words ∷ l) (steps-words (c .bytes) cs)
+steps-words : (b : List ℕ) (cs : List HallCall) → WordsIn (stepWords cs) → WordsIn (map (λ (m : Made). m .words) (stepsMade b cs))
+unfolding stepsMade stepWords
+steps-words b [] low = tt
+steps-words b (steps c ∷ cs) low = (low .0, steps-words (c .bytes) cs (low .1))
+steps-words b (settles c ∷ cs) low =
+    words-append (settleMade b) (stepsMade (c .bytes) cs) (settle-made-words b) (steps-words (c .bytes) cs low)
 
--- demand 3 of the calls: `open` returned 0, and each `step` meets its contract
+-- demand 3 of the calls: `open` returned 0, and each `step` and each `settle` meets its contract
 pub calls-agree : (b : List ℕ) (o : Opening) (n : ℕ) (d : List ℕ) → Opens b o n d → n ≡ 0
-    → (cs : List StepCall) → StepsMet d cs → WordsIn (map (λ (c : StepCall). c .words) cs)
-    → Agreed (historyOf (stepsMade d cs) (stepsLeft d cs))
+    → (cs : List HallCall) → StepsMet d cs → WordsIn (stepWords cs) → Agreed (historyOf (stepsMade d cs) (stepsLeft d cs))
 calls-agree b o n d opens t cs met low =
-    let e = opens .bytes in
-    sound-agree b o (sym (opens .number) ∙ t) (stepsMade d cs) (stepsLeft d cs) (subst WordsIn (sym (steps-words d cs)) low)
-    (subst (λ (x : List ℕ). Sound x (stepsMade d cs) (stepsLeft d cs)) e (steps-sound d cs met))
+    sound-agree b o (sym (opens .number) ∙ t) (stepsMade d cs) (stepsLeft d cs) (steps-words d cs low)
+    (subst (λ (x : List ℕ). Sound x (stepsMade d cs) (stepsLeft d cs)) (opens .bytes) (steps-sound d cs met))
 
--- ## Calls of `hall_open` and `hall_step`
+-- ## Calls of `hall_open`, `hall_step` and `hall_settle`
 
 -- an entry's sender in a valid hall is a 32-bit word, also where no entry is
 sender-word : (h : Hall) → ValidHall h → (e : ℕ) → h .entries .sender e < 2 ^ 32
@@ -103,7 +142,7 @@ answer-words out s x l i j =
     (ap (λ (z : List ℕ). value (part 4 4 z)) e ∙ value-digits 4 s (omega arith))
     (ap (λ (z : List ℕ). value (part 8 4 z)) e ∙ value-digits 4 (x .value) (omega (arith, j .value)))
 
-module _ (b : List ℕ) (c : LentCall) (met : Leaves (stepLent b (c .words) (c .out)) (c .number) (c .hall) (c .answer)) where
+module _ (b : List ℕ) (c : LentStep) (met : Leaves (stepLent b (c .words) (c .out)) (c .number) (c .hall) (c .answer)) where
   abbrev w : Words
   w = c .words
 
@@ -166,20 +205,45 @@ module _ (b : List ℕ) (c : LentCall) (met : Leaves (stepLent b (c .words) (c .
       let ne = eqb-false (plain x .number) 0 t in
       inr (turned (plain x .number) ne (lent-refused (plain x) b (stepOn b w .bytes) (c .out) (plain x .number) refl ne)))
 
+-- a settle that returned 0 did what its definition says, another did nothing
+module _ (b : List ℕ) (c : LentSettle) (met : Leaves (settleLent b (c .out)) (c .number) (c .hall) (c .answer)) where
+  abbrev settleSteps : List Made
+  settleSteps = elim (eqb (c .number) 0) [ true ↦ settleMade b | false ↦ [] ]
+
+  by-number : (t : Bool) → eqb (c .number) 0 ≡ t → Sound b (elim t [ true ↦ settleMade b | false ↦ [] ]) (c .hall)
+  unfolding settleLent
+  by-number true t = settle-made-sound b (c .hall) (met .bytes ∙ lent-taken (settleOn b .answer) b (settleOn b .bytes) (c .out) (sym (met .number) ∙ eqb-true (c .number) 0 t))
+  by-number false t = met .bytes ∙ refused-keeps .settleHall b (c .out) (λ z. eqb-false (c .number) 0 t (met .number ∙ z))
+
+  lent-settle-sound : Sound b settleSteps (c .hall)
+  lent-settle-sound = by-number (eqb (c .number) 0) refl
+
+  lent-settle-words : WordsIn (map (λ (m : Made). m .words) settleSteps)
+  lent-settle-words = go (eqb (c .number) 0)
+    where
+      go : (t : Bool) → WordsIn (map (λ (m : Made). m .words) (elim t [ true ↦ settleMade b | false ↦ [] ]))
+      go true = settle-made-words b
+      go false = tt
+
 lents-sound : (b : List ℕ) (cs : List LentCall) → LentMet b cs → Sound b (lentMade b cs) (lentLeft b cs)
 unfolding lentMade lentLeft
 lents-sound b [] met = refl
-lents-sound b (c ∷ cs) met = (lent-sound b c (met .0), lents-sound (c .hall) cs (met .1))
+lents-sound b (LentCall.steps c ∷ cs) met = (lent-sound b c (met .0), lents-sound (c .hall) cs (met .1))
+lents-sound b (LentCall.settles c ∷ cs) met =
+    sound-append b (settleSteps b c (met .0)) (c .hall) (lentMade (c .hall) cs) (lentLeft (c .hall) cs)
+    (lent-settle-sound b c (met .0)) (lents-sound (c .hall) cs (met .1))
 
-lents-words : (b : List ℕ) (cs : List LentCall) → map (λ (m : Made). m .words) (lentMade b cs) ≡ map (λ (c : LentCall). c .words) cs
-unfolding lentMade
-lents-words b [] = refl
-lents-words b (c ∷ cs) = ap (λ (l : List Words). c .words ∷ l) (lents-words (c .hall) cs)
+lents-words : (b : List ℕ) (cs : List LentCall) → LentMet b cs → WordsIn (lentWords cs) → WordsIn (map (λ (m : Made). m .words) (lentMade b cs))
+unfolding lentMade lentWords
+lents-words b [] met low = tt
+lents-words b (LentCall.steps c ∷ cs) met low = (low .0, lents-words (c .hall) cs (met .1) (low .1))
+lents-words b (LentCall.settles c ∷ cs) met low =
+    words-append (settleSteps b c (met .0)) (lentMade (c .hall) cs) (lent-settle-words b c (met .0)) (lents-words (c .hall) cs (met .1) low)
 
--- demand 3 of the C calls: `hall_open` returned 0, and each `hall_step` meets its contract, whatever slice its answer had
+-- demand 3 of the C calls: `hall_open` returned 0, and each `hall_step` and each `hall_settle` meets its contract, whatever
+-- slice its answer had
 pub c-calls-agree : (b : List ℕ) (o : Opening) (n : ℕ) (d : List ℕ) → Opens b o n d → n ≡ 0
-    → (cs : List LentCall) → LentMet d cs → WordsIn (map (λ (c : LentCall). c .words) cs)
-    → Agreed (historyOf (lentMade d cs) (lentLeft d cs))
+    → (cs : List LentCall) → LentMet d cs → WordsIn (lentWords cs) → Agreed (historyOf (lentMade d cs) (lentLeft d cs))
 c-calls-agree b o n d opens t cs met low =
-    sound-agree b o (sym (opens .number) ∙ t) (lentMade d cs) (lentLeft d cs) (subst WordsIn (sym (lents-words d cs)) low)
+    sound-agree b o (sym (opens .number) ∙ t) (lentMade d cs) (lentLeft d cs) (lents-words d cs met low)
     (subst (λ (x : List ℕ). Sound x (lentMade d cs) (lentLeft d cs)) (opens .bytes) (lents-sound d cs met))

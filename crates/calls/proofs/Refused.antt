@@ -17,12 +17,13 @@ use Rattle.model.specs.Actions.{perform}
 use Rattle.model.specs.Opening.{Opening}
 use Rattle.model.specs.Page.{PageAnswer, plainPage}
 use Rattle.model.specs.Call.{Words, hl3, Stored, hall}
+use Rattle.model.specs.Settle.{Settling, callsTaken, plainSettle}
 use Rattle.model.specs.RunFile.{readFile, readAnswer, nextAt, Writing, writeFile}
 use Rattle.store.specs.StoredForm.{hallOf, isStored}
-use Rattle.calls.specs.Calls.{withHall, OpenOutcome, openOn, Outcome, stepOn, pageOn}
+use Rattle.calls.specs.Calls.{withHall, OpenOutcome, openOn, Outcome, stepOn, pageOn, runOn, settlingOn, SettleOutcome, settleOn}
 use Rattle.calls.specs.ByKind.{kindOn, give}
 use Rattle.calls.specs.Kept.{Keeps, RefusedKeeps}
-use Rattle.calls.specs.Lent.{answerLength, withAnswer, Lent, lentNumber, lentCall, stepLent, pageLent, Leaves}
+use Rattle.calls.specs.Lent.{answerLength, withAnswer, Lent, lentNumber, lentCall, stepLent, pageLent, settleLent, Leaves}
 use Rattle.calls.specs.RunsLent.{readWords, nextWords, writtenWords, runReadLent, runActionLent, runWriteLent}
 use Rattle.calls.proofs.ByKindLaws.{actOn, step-by-kind}
 use Rattle.calls.proofs.OpenLaws.{open-refused, open-taken}
@@ -139,6 +140,18 @@ module _ (x : Plain) (before next out : List ℕ) where
       leaves (record { number = 0; bytes = next; answer = withAnswer out (x .values) })
       (is-after 0 (ap₂ (λ (m : ℕ) (t : Bool). m ⨾ refuse t 18) e (le-ltb _ _ l)))
 
+-- a call into a lent slice that returned 0 left its own bytes
+pub lent-taken : (x : Plain) (before next out : List ℕ) → lentCall x before next out .number ≡ 0 → lentCall x before next out .bytes ≡ next
+unfolding lentCall
+lent-taken x before next out = go (eqb (lentNumber (x .number) out) 0) refl
+  where
+    after : Bool → Lent
+    after t = elim t [ true ↦ record { number = 0; bytes = next; answer = withAnswer out (x .values) } | false ↦ record { number = lentNumber (x .number) out; bytes = before; answer = out } ]
+
+    go : (t : Bool) → eqb (lentNumber (x .number) out) 0 ≡ t → after t .number ≡ 0 → after t .bytes ≡ next
+    go true e z = refl
+    go false e z = absurd (eqb-false (lentNumber (x .number) out) 0 e z)
+
 -- ## No refused call changes a byte
 
 -- a call into a lent slice leaves both slices, or returns 0
@@ -160,6 +173,15 @@ open-keeps : (b : List ℕ) (o : Opening) → Keeps (openOn b o .number) b (open
 open-keeps b o ne =
     open-refused b o (λ z. ne (open-taken b o z .0)) .1
 
+-- a refused settle stands for no call
+settle-keeps : (b : List ℕ) → Keeps (settleOn b .answer .number) b (settleOn b .bytes)
+unfolding settleOn plainSettle callsTaken runOn
+settle-keeps b = go (settlingOn b)
+  where
+    go : (x : Settling) → Keeps (plainSettle x .number) b (runOn b (callsTaken x))
+    go (Settling.settled ws) ne = absurd (ne refl)
+    go (Settling.refused n) ne = refl
+
 -- a call that only reads its first slice
 only-read : (x : Plain) (b out : List ℕ) → lentCall x b b out .bytes ≡ b
 unfolding lentCall
@@ -173,13 +195,16 @@ only-read x b out = go (eqb (lentNumber (x .number) out) 0)
     go false = refl
 
 pub refused-keeps : RefusedKeeps
-unfolding stepLent pageLent runReadLent runActionLent runWriteLent
+unfolding stepLent settleLent pageLent runReadLent runActionLent runWriteLent
 refused-keeps =
     record {
       opening = open-keeps;
       step = step-keeps;
       stepHall = λ b w out. lent-keeps (plain (stepOn b w .answer)) b (stepOn b w .bytes) out .0;
       stepAnswer = λ b w out. lent-keeps (plain (stepOn b w .answer)) b (stepOn b w .bytes) out .1;
+      settle = settle-keeps;
+      settleHall = λ b out. lent-keeps (settleOn b .answer) b (settleOn b .bytes) out .0;
+      settleAnswer = λ b out. lent-keeps (settleOn b .answer) b (settleOn b .bytes) out .1;
       pageHall = λ b r k out. only-read (plainPage (pageOn b r k)) b out;
       pageAnswer = λ b r k out. lent-keeps (plainPage (pageOn b r k)) b b out .1;
       runReadFile = λ f out. only-read (readWords (readAnswer f (readFile f))) f out;

@@ -3,22 +3,24 @@
 use Prim.Native.Nat.{ℕ, _*_}
 use mathlib.Core.Path.{_≡_}
 use mathlib.Core.Bool.{Bool, true, false, _&&_}
-use mathlib.Core.List.{List, [], _∷_}
+use mathlib.Core.List.{List, [], _∷_, _++_}
 use lib.Dec.{eqb}
 use Rattle.model.specs.Answers as model
 use Rattle.model.specs.Answers.{from, accepted}
 use Rattle.model.specs.Actions.{payloadOf}
 use Rattle.model.specs.Opening.{Opening}
 use Rattle.model.specs.Call.{Words}
+use Rattle.model.specs.Settle.{callsTaken}
 use Rattle.model.specs.Run.{firstWaiting, atReport, itemsFrom, History}
 use Rattle.codec.specs.Bytes.{part}
 use Rattle.codec.specs.Number.{value}
 use Rattle.store.specs.StoredForm.{hallOf}
 use Rattle.answer.specs.declared.Answer.{Answer}
+use Rattle.answer.specs.declared.Settled.{Settled}
 use Rattle.answer.specs.Meaning.{meaning}
-use Rattle.calls.specs.Calls.{OpenOutcome, openOn, Outcome, stepOn, runOn}
-use Rattle.calls.specs.Steps.{Steps}
-use Rattle.calls.specs.Lent.{Lent, stepLent, Leaves}
+use Rattle.calls.specs.Calls.{OpenOutcome, openOn, Outcome, stepOn, runOn, settlingOn}
+use Rattle.calls.specs.Steps.{Steps, Settles}
+use Rattle.calls.specs.Lent.{Lent, stepLent, settleLent, Leaves}
 
 -- A call that was made: its words, the hall's bytes that it was lent, whether it was accepted, what it answered, and the
 -- hall's bytes that it left.
@@ -65,51 +67,92 @@ madeOn b (w ∷ ws) =
 abbrev pub historyOn : List ℕ → List Words → History
 historyOn b ws = historyOf (madeOn b ws) (runOn b ws)
 
--- ## Calls of `step`
+-- ## Calls of `step` and `settle`
 
--- a call: its words, the answer that it returned, the bytes that it left
+-- the calls that a settle on the bytes b stands for, each as a step: "as which demand 3 counts it" (02, A5)
+unfoldable pub settleMade : List ℕ → List Made
+settleMade b = madeOn b (callsTaken (settlingOn b))
+
+-- a call of `step`: its words, the answer that it returned, the bytes that it left
 pub record StepCall : Type 0 where
   pub words : Words
   pub answer : Answer
   pub bytes : List ℕ
 
--- each call meets the contract of `step` on the bytes that the one before left
-abbrev pub StepsMet : List ℕ → List StepCall → Type 0
+-- a call of `settle`: the answer that it returned, the bytes that it left
+pub record SettleCall : Type 0 where
+  pub answer : Settled
+  pub bytes : List ℕ
+
+pub data HallCall : Type 0 where
+  steps : StepCall → HallCall
+  settles : SettleCall → HallCall
+
+-- each call meets the contract of `step` or `settle` on the bytes that the one before left
+abbrev pub StepsMet : List ℕ → List HallCall → Type 0
 StepsMet b [] = Unit {0}
-StepsMet b (c ∷ cs) =
+StepsMet b (steps c ∷ cs) =
     Steps b (c .words .k) (c .words .r) (c .words .a) (c .words .b) (c .answer) (c .bytes) × StepsMet (c .bytes) cs
+StepsMet b (settles c ∷ cs) = Settles b (c .answer) (c .bytes) × StepsMet (c .bytes) cs
+
+-- the words of the steps
+unfoldable pub stepWords : List HallCall → List Words
+stepWords [] = []
+stepWords (steps c ∷ cs) = c .words ∷ stepWords cs
+stepWords (settles c ∷ cs) = stepWords cs
 
 -- the bytes after the last call
-unfoldable pub stepsLeft : List ℕ → List StepCall → List ℕ
+unfoldable pub stepsLeft : List ℕ → List HallCall → List ℕ
 stepsLeft b [] = b
-stepsLeft b (c ∷ cs) = stepsLeft (c .bytes) cs
+stepsLeft b (steps c ∷ cs) = stepsLeft (c .bytes) cs
+stepsLeft b (settles c ∷ cs) = stepsLeft (c .bytes) cs
 
-unfoldable pub stepsMade : List ℕ → List StepCall → List Made
+unfoldable pub stepsMade : List ℕ → List HallCall → List Made
 stepsMade b [] = []
-stepsMade b (c ∷ cs) =
+stepsMade b (steps c ∷ cs) =
     record { words = c .words; before = b; taken = accepted (meaning (c .answer)); answer = meaning (c .answer); after = c .bytes }
     ∷ stepsMade (c .bytes) cs
+stepsMade b (settles c ∷ cs) = settleMade b ++ stepsMade (c .bytes) cs
 
--- ## Calls of `hall_step`, the C interface
+-- ## Calls of `hall_step` and `hall_settle`, the C interface
 
--- a call: its words, the slice lent for its answer, the number that it returned, and the two slices that it left
-pub record LentCall : Type 0 where
+-- a call of `hall_step`: its words, the slice lent for its answer, the number that it returned, and the two slices that it left
+pub record LentStep : Type 0 where
   pub words : Words
   pub out : List ℕ
   pub number : ℕ
   pub hall : List ℕ
   pub answer : List ℕ
 
--- each call meets the contract of `hall_step` on the bytes that the one before left
+-- a call of `hall_settle`
+pub record LentSettle : Type 0 where
+  pub out : List ℕ
+  pub number : ℕ
+  pub hall : List ℕ
+  pub answer : List ℕ
+
+pub data LentCall : Type 0 where
+  steps : LentStep → LentCall
+  settles : LentSettle → LentCall
+
+-- each call meets the contract of `hall_step` or `hall_settle` on the bytes that the one before left
 abbrev pub LentMet : List ℕ → List LentCall → Type 0
 LentMet b [] = Unit {0}
-LentMet b (c ∷ cs) =
+LentMet b (LentCall.steps c ∷ cs) =
     Leaves (stepLent b (c .words) (c .out)) (c .number) (c .hall) (c .answer) × LentMet (c .hall) cs
+LentMet b (LentCall.settles c ∷ cs) = Leaves (settleLent b (c .out)) (c .number) (c .hall) (c .answer) × LentMet (c .hall) cs
+
+-- the words of the steps
+unfoldable pub lentWords : List LentCall → List Words
+lentWords [] = []
+lentWords (LentCall.steps c ∷ cs) = c .words ∷ lentWords cs
+lentWords (LentCall.settles c ∷ cs) = lentWords cs
 
 -- the hall's bytes after the last call
 unfoldable pub lentLeft : List ℕ → List LentCall → List ℕ
 lentLeft b [] = b
-lentLeft b (c ∷ cs) = lentLeft (c .hall) cs
+lentLeft b (LentCall.steps c ∷ cs) = lentLeft (c .hall) cs
+lentLeft b (LentCall.settles c ∷ cs) = lentLeft (c .hall) cs
 
 -- word i of an answer slice
 unfoldable pub wordIn : ℕ → List ℕ → ℕ
@@ -119,10 +162,10 @@ wordIn i x = value (part (4 * i) 4 x)
 unfoldable pub deliverIn : List ℕ → model.Answer
 deliverIn x = from (wordIn 1 x) (record { value = wordIn 2 x })
 
--- A call is accepted if it returned 0.
+-- A call is accepted if it returned 0; a settle that did stands for its run, another for no call.
 unfoldable pub lentMade : List ℕ → List LentCall → List Made
 lentMade b [] = []
-lentMade b (c ∷ cs) =
+lentMade b (LentCall.steps c ∷ cs) =
     record {
       words = c .words;
       before = b;
@@ -131,3 +174,4 @@ lentMade b (c ∷ cs) =
       after = c .hall;
     }
     ∷ lentMade (c .hall) cs
+lentMade b (LentCall.settles c ∷ cs) = elim (eqb (c .number) 0) [ true ↦ settleMade b | false ↦ [] ] ++ lentMade (c .hall) cs

@@ -9,8 +9,8 @@ use Rattle.model.specs.Answers.{Plain, plain}
 use Rattle.model.specs.Opening.{Opening}
 use Rattle.model.specs.Call.{Words}
 use Rattle.model.specs.RunFile.{RunText}
-use Rattle.calls.specs.Calls.{OpenOutcome, openOn, Outcome, stepOn}
-use Rattle.calls.specs.Lent.{Lent, stepLent, pageLent}
+use Rattle.calls.specs.Calls.{OpenOutcome, openOn, Outcome, stepOn, SettleOutcome, settleOn}
+use Rattle.calls.specs.Lent.{Lent, stepLent, pageLent, settleLent}
 use Rattle.calls.specs.RunsLent.{runReadLent, runActionLent, runWriteLent}
 
 -- a call that returned the number n keeps the lent bytes if it is refused
@@ -25,6 +25,11 @@ pub record RefusedKeeps : Type 0 where
   -- `hall_step`: the hall's slice and the answer's
   pub stepHall : (b : List ℕ) (w : Words) (out : List ℕ) → Keeps (stepLent b w out .number) b (stepLent b w out .bytes)
   pub stepAnswer : (b : List ℕ) (w : Words) (out : List ℕ) → Keeps (stepLent b w out .number) out (stepLent b w out .answer)
+  -- `settle`
+  pub settle : (b : List ℕ) → Keeps (settleOn b .answer .number) b (settleOn b .bytes)
+  -- `hall_settle`: the hall's slice and the answer's
+  pub settleHall : (b out : List ℕ) → Keeps (settleLent b out .number) b (settleLent b out .bytes)
+  pub settleAnswer : (b out : List ℕ) → Keeps (settleLent b out .number) out (settleLent b out .answer)
   -- `hall_page`
   pub pageHall : (b : List ℕ) (r k : ℕ) (out : List ℕ) → pageLent b r k out .bytes ≡ b
   pub pageAnswer : (b : List ℕ) (r k : ℕ) (out : List ℕ) → Keeps (pageLent b r k out .number) out (pageLent b r k out .answer)

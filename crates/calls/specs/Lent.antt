@@ -12,7 +12,7 @@ use Rattle.model.specs.Page.{plainPage}
 use Rattle.model.specs.Call.{Words}
 use Rattle.codec.specs.Bytes.{zeros}
 use Rattle.codec.specs.Number.{digits}
-use Rattle.calls.specs.Calls.{Outcome, stepOn, pageOn}
+use Rattle.calls.specs.Calls.{Outcome, stepOn, pageOn, SettleOutcome, settleOn}
 
 -- an answer slice has sixteen words of four bytes
 abbrev pub answerLength : ℕ
@@ -61,6 +61,10 @@ stepLent hall w out = let o = stepOn hall w in lentCall (plain (o .answer)) hall
 -- a page
 unfoldable pub pageLent : List ℕ → ℕ → ℕ → List ℕ → Lent
 pageLent hall r k out = lentCall (plainPage (pageOn hall r k)) hall hall out
+
+-- a settle: 31, 42, 40, and 18 last
+unfoldable pub settleLent : List ℕ → List ℕ → Lent
+settleLent hall out = let o = settleOn hall in lentCall (o .answer) hall (o .bytes) out
 
 -- What a call returns and leaves, number n and slices b and x, is what the definition says.
 pub record Leaves (l : Lent) (n : ℕ) (b x : List ℕ) : Type 0 where

@@ -305,7 +305,7 @@ settleCard =
           ++ (settleNumbers (builtInOpening 3 7) (threeSubmits ++ (wordsOf 5 0 2 3 ∷ []))
           ++ (settleNumbers (builtInOpening 3 7) []
           ++ settleNumbers (builtInOpening 3 7) (wordsOf 5 0 2 3 ∷ wordsOf 5 0 3 6 ∷ []))));
-      wanted = 0 ∷ 7 ∷ 0 ∷ 45 ∷ 0 ∷ 36 ∷ 0 ∷ 0 ∷ 42 ∷ [];
+      wanted = 0 ∷ 7 ∷ 0 ∷ 45 ∷ 0 ∷ 36 ∷ 0 ∷ 0 ∷ 42 ∷ 0 ∷ [];
     }
 
 unfoldable pub cards : List Card

@@ -100,10 +100,10 @@ unfoldable pub callsTaken : Settling → List Words
 callsTaken (settled ws) = ws
 callsTaken (refused n) = []
 
--- "The count of accepted steps in the answer", or the refusal's number
+-- "The count of accepted steps in the answer", or the refusal's number: "other answer fields 0"
 unfoldable pub plainSettle : Settling → Plain
 plainSettle (settled ws) = record { number = 0; values = length ws ∷ [] }
-plainSettle (refused n) = record { number = n; values = [] }
+plainSettle (refused n) = record { number = n; values = 0 ∷ [] }
 
 -- "every entry submitted at a member has then been delivered at all members": of what a run leaves, for the members ms
 abbrev pub Complete : History → List ℕ → Type 0

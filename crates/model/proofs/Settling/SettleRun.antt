@@ -1,23 +1,24 @@
 -- A settle is the run of its calls, every one accepted (02, A5: "the number of steps of the run it stands for"); a list of calls
 -- with settles among them is a run.
 -- Assumes nothing.
-use Prim.Native.Nat.{ℕ, zero, suc}
+use Prim.Native.Nat.{ℕ, zero, suc, _^_, _<_}
+use native.Mathlib.Omega.{arith}
 use mathlib.Core.Path.{_≡_, refl, sym, ap, _∙_, subst}
-use mathlib.Core.Bool.{Bool, true, false}
+use mathlib.Core.Bool.{Bool, true, false, _||_}
 use mathlib.Core.List.{List, [], _∷_, _++_}
+use lib.Dec.{eqb}
 use borrow.Author.Tests.{eq-eqb}
-use Rattle.base.specs.Lists.{Each}
 use Rattle.model.specs.Hall.{Hall}
 use Rattle.model.specs.Answers.{Answer, plain, accepted}
 use Rattle.model.specs.Refusals.{Rules}
 use Rattle.model.specs.Actions.{Outcome}
 use Rattle.model.specs.Opening.{Opening, openRefusal, opened}
-use Rattle.model.specs.Call.{Words, hl3, step}
-use Rattle.model.specs.Run.{run, answers, history}
-use Rattle.model.specs.Settle.{greatestView, cannotSettle, Turn, takes, full, none, turn, turnOf, settleCalls, Settling, settled, refused, andThen, maxTurns, settleFrom, settle, Call, standsFor, callsOf, runCalls}
+use Rattle.model.specs.Call.{Words, WordsIn, step}
+use Rattle.model.specs.Run.{run, history}
+use Rattle.model.specs.Settle.{greatestView, cannotSettle, Turn, takes, full, none, turnOf, settleCall, settleCalls, Settling, settled, refused, andThen, maxTurns, settleFrom, settle, callsTaken, Call, standsFor, callsOf, runCalls}
 use Rattle.model.specs.Agreed.{FairRules, Agreed}
 use Rattle.model.proofs.Agreement.Theorem.{agreement}
-use Rattle.model.proofs.Settling.TurnLaws.{Finds, finds}
+use Rattle.model.proofs.Settling.TurnLaws.{Finds, finds, call-of}
 
 -- each call of a run is accepted
 abbrev pub AllAccepted : Rules → Hall → List Words → Type 0
@@ -54,6 +55,44 @@ settle-run rules h = go (cannotSettle h)
     go : (t : Bool) → Runs rules h (elim t [ true ↦ refused 42 | false ↦ settleFrom rules maxTurns (greatestView h) h ])
     go true = tt
     go false = from-runs rules maxTurns (greatestView h) h
+
+-- ## Its words
+
+call-low : (g k r : ℕ) → g < 2 ^ 32 → settleCall g k r .a < 2 ^ 32
+unfolding settleCall
+call-low g k r low = go (eqb k 6 || eqb k 7)
+  where
+    go : (t : Bool) → elim t [ true ↦ g | false ↦ 0 ] < 2 ^ 32
+    go true = low
+    go false = omega arith
+
+and-low : (w : Words) → w .a < 2 ^ 32 → (x : Settling) → WordsIn (callsTaken x) → WordsIn (callsTaken (andThen w x))
+unfolding callsTaken andThen
+and-low w low (settled ws) r = (low, r)
+and-low w low (refused n) r = tt
+
+from-low : (rules : Rules) (n g : ℕ) → g < 2 ^ 32 → (h : Hall) → WordsIn (callsTaken (settleFrom rules n g h))
+unfolding settleFrom callsTaken Finds turnOf
+from-low rules zero g low h = tt
+from-low rules (suc n) g low h = go (λ h. from-low rules n g low h) (turnOf rules h g) (finds rules h g (settleCalls g (h .service .members g)))
+  where
+    go : ((h : Hall) → WordsIn (callsTaken (settleFrom rules n g h))) → (t : Turn) → Finds rules h g (settleCalls g (h .service .members g)) t
+        → WordsIn (callsTaken (elim t [ takes w ↦ andThen w (settleFrom rules n g (step rules h w .hall)) | full ↦ refused 40 | none ↦ settled [] ]))
+    go ih (takes w) f =
+        let c = call-of g (h .service .members g) (f .before) (f .after) w (f .split) in
+        and-low w (subst (λ (v : Words). v .a < 2 ^ 32) (sym (c .words)) (call-low g (c .kind) (c .recorder) low))
+        (settleFrom rules n g (step rules h w .hall)) (ih (step rules h w .hall))
+    go ih full f = tt
+    go ih none f = tt
+
+-- each A of its calls has 32 bits, if the view's number has
+pub settle-words : (rules : Rules) (h : Hall) → greatestView h < 2 ^ 32 → WordsIn (callsTaken (settle rules h))
+unfolding settle callsTaken
+settle-words rules h low = go (cannotSettle h)
+  where
+    go : (t : Bool) → WordsIn (callsTaken (elim t [ true ↦ refused 42 | false ↦ settleFrom rules maxTurns (greatestView h) h ]))
+    go true = tt
+    go false = from-low rules maxTurns (greatestView h) low h
 
 -- ## Lists of calls
 
