@@ -1,5 +1,6 @@
 pub mod OpenLaws
 pub mod RunLaw
+pub mod HeldSteps
 pub mod Refused
 pub mod Runs
 pub mod Agreement

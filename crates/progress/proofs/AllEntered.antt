@@ -28,6 +28,7 @@ use Rattle.model.proofs.Accepting.Accepted.{performed-accepted}
 use Rattle.model.proofs.Settling.TurnLaws.{numberAt, Passed, under-call, call-under}
 use Rattle.store.specs.Valid.{ValidHall}
 use Rattle.store.proofs.KeepRules.{facts-of}
+use Rattle.progress.specs.AnyTurn.{anyTurn}
 use Rattle.progress.proofs.GreatestView.{formed-low, formed-below, greatest-number, member-formed, members-in}
 
 -- ## The number of a call
@@ -102,11 +103,6 @@ module _ (rules : Rules) (h : Hall) (valid : ValidHall h) where
           (facts-of h valid .views .current r)
 
 -- ## A turn without the test
-
--- a turn that does not ask whether a call is in the view
-unfoldable pub anyTurn : Rules → Hall → List Words → Turn
-anyTurn rules h [] = none
-anyTurn rules h (w ∷ ws) = tried (numberAt rules h w) w (anyTurn rules h ws)
 
 module _ (rules : Rules) (h : Hall) (g : ℕ) where
   -- a call that is in the view is tried

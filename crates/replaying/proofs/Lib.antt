@@ -4,5 +4,4 @@ pub mod GoingLaws
 pub mod Numbers
 pub mod Longest
 pub mod FilesLaws
-pub mod Steps
 pub mod LinesLaws
