@@ -1,0 +1,3 @@
+pub mod TurnSteps
+pub mod TakenLaws
+pub mod CopyLaws
