@@ -61,7 +61,8 @@ module _ (n r : ℕ) (low : 1 ≤ r) (high : r ≤ n) where
   no-words κ u = rw (u, right-recorder)
 
   -- kinds that use a view number
-  pub view-word : (κ : Kind) → uses κ ≡ record { r = recorder; a = number; b = unused } → (g : ℕ) → 1 ≤ g → g ≤ maxNumber → inputRefusal n κ r g 0 ≡ 0
+  pub view-word : (κ : Kind) → uses κ ≡ record { r = recorder; a = number; b = unused } → (g : ℕ) → 1 ≤ g → g ≤ maxNumber
+      → inputRefusal n κ r g 0 ≡ 0
   unfolding inputRefusal wrongRecorder strayWord wrongNumber wrongSet refuse _⨾_ within
   view-word κ u g l m =
       let v : within 1 maxNumber g ≡ true = and-true (leb 1 g) (leb g maxNumber) (le-leb 1 g l) (le-leb g maxNumber m) in

@@ -1,4 +1,21 @@
 -- A settle ends and is bounded on every hall in range; on a hall reached from opening no call meets 40, and the log is complete.
 pub mod Once
+pub mod Sizes
+pub mod Reached
+pub mod Distinct
+pub mod RoomToSend
+pub mod RoomToPlace
+pub mod RoomToReceive
+pub mod NeverFull
+pub mod SettleFull
 pub mod GreatestView
 pub mod AllEntered
+pub mod Sums
+pub mod Measure
+pub mod SettleSteps
+pub mod Quiet
+pub mod Bounds
+pub mod Ends
+pub mod SafeExactly
+pub mod End
+pub mod Complete

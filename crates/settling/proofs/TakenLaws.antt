@@ -29,7 +29,7 @@ use Rattle.progress.proofs.AllEntered.{turn-any}
 use Rattle.hall.specs.declared.View.{View}
 use Rattle.hall.specs.Parts.{ViewIs}
 use Rattle.settling.specs.declared.Turn.{Turn}
-use Rattle.settling.specs.Turns.{found, endOf, InView, TurnsTaken}
+use Rattle.settling.specs.Turns.{found, InView, TurnsTaken}
 
 -- TODO model
 call-low : (g k r : ℕ) → g < 2 ^ 32 → settleCall g k r .a < 2 ^ 32
@@ -97,6 +97,10 @@ module _ (c : List ℕ) (v : View) (i : InView c v) (t : Turn)
   is-turn =
       is ∙ ap₂ (λ (a : ℕ) (l : List ℕ). anyTurn hl3 h (settleCalls a l)) (i .view .number) set-is
       ∙ sym (turn-any hl3 h valid) ∙ ap (turnOf hl3 h) (sym (i .view .number))
+
+-- the answer of n steps
+counted : ℕ → Plain
+counted n = record { number = 0; values = n ∷ [] }
 
 -- one turn more
 module _ (b : List ℕ) (v : View) (count : ℕ) (c : List ℕ) (go : Going b v count c) (few : count < maxTurns) (t : Turn)
@@ -166,35 +170,30 @@ module _ (b : List ℕ) (v : View) (count : ℕ) (c : List ℕ) (go : Going b v 
               ∙ ap (λ (x : Hall). before (go .taken ++ (w ∷ [])) (settleFrom hl3 (maxTurns - (count + 1)) number x)) (sym hall-is);
         }
 
-  -- it takes no call: the turns end
-  pub going-ends : (x : Settled) → x ≡ endOf t count → ((k r : ℕ) → t ≡ Turn.Takes k r → ⊥) → TurnsTaken b v x c
-  unfolding endOf settledMeaning afterTurn found plainSettle callsTaken
-  going-ends x e no-call = by t refl
-    where
-      by : (u : Turn) → t ≡ u → TurnsTaken b v x c
-      by (Turn.Takes k r) f = absurd (no-call k r f)
-      by Turn.Full f =
-          let whole = left-is ∙ ap (λ (u : Turn). before (go .taken) (afterTurn (found number u))) f ∙ before-refused (go .taken) 40 in
-          let says : x ≡ Settled.Refused 40 = e ∙ ap (λ (u : Turn). endOf u count) f in
-          record {
-            answer = ap settledMeaning says ∙ sym (ap plainSettle whole);
-            bytes = λ z. let n : _≡_ {A = ℕ} 40 0 = sym (ap (λ (y : Settled). settledMeaning y .number) says) ∙ z in absurd (omega arith);
-          }
-      by Turn.Nothing f =
-          let whole = left-is ∙ ap (λ (u : Turn). before (go .taken) (afterTurn (found number u))) f ∙ before-settled (go .taken) in
-          let says : x ≡ Settled.Count count = e ∙ ap (λ (u : Turn). endOf u count) f in
-          record {
-            answer = ap settledMeaning says ∙ ap counted (sym (go .many)) ∙ sym (ap plainSettle whole);
-            bytes = λ z. go .bytes ∙ sym (ap (λ (s : Settling). runOn b (callsTaken s)) whole);
-          }
+  -- it meets 40
+  pub going-full : t ≡ Turn.Full → (x : Settled) → x ≡ Settled.Refused 40 → TurnsTaken b v x c
+  unfolding settledMeaning afterTurn found plainSettle
+  going-full f x e =
+      let whole = left-is ∙ ap (λ (u : Turn). before (go .taken) (afterTurn (found number u))) f ∙ before-refused (go .taken) 40 in
+      record {
+        answer = ap settledMeaning e ∙ sym (ap plainSettle whole);
+        bytes = λ z. let n : _≡_ {A = ℕ} 40 0 = sym (ap (λ (y : Settled). settledMeaning y .number) e) ∙ z in absurd (omega arith);
+      }
 
-      counted : ℕ → Plain
-      counted n = record { number = 0; values = n ∷ [] }
+  -- none is left
+  pub going-done : t ≡ Turn.Nothing → (x : Settled) → x ≡ Settled.Count count → TurnsTaken b v x c
+  unfolding settledMeaning afterTurn found plainSettle callsTaken counted
+  going-done f x e =
+      let whole = left-is ∙ ap (λ (u : Turn). before (go .taken) (afterTurn (found number u))) f ∙ before-settled (go .taken) in
+      record {
+        answer = ap settledMeaning e ∙ ap counted (sym (go .many)) ∙ sym (ap plainSettle whole);
+        bytes = λ z. go .bytes ∙ sym (ap (λ (s : Settling). runOn b (callsTaken s)) whole);
+      }
 
 -- as many turns as there can be
 pub going-out : (b : List ℕ) (v : View) (count : ℕ) (c : List ℕ) → Going b v count c → maxTurns ≤ count → (x : Settled) → x ≡ Settled.Count count
     → TurnsTaken b v x c
-unfolding settleFrom settledMeaning plainSettle callsTaken
+unfolding settleFrom settledMeaning plainSettle callsTaken counted
 going-out b v count c go out x e =
     let z : maxTurns - count ≡ 0 = omega arith in
     let whole = go .left ∙ ap (λ n. before (go .taken) (settleFrom hl3 n (v .number) (hallOf c))) z ∙ before-settled (go .taken) in
@@ -202,6 +201,3 @@ going-out b v count c go out x e =
       answer = ap settledMeaning e ∙ ap counted (sym (go .many)) ∙ sym (ap plainSettle whole);
       bytes = λ y. go .bytes ∙ sym (ap (λ (s : Settling). runOn b (callsTaken s)) whole);
     }
-  where
-    counted : ℕ → Plain
-    counted n = record { number = 0; values = n ∷ [] }

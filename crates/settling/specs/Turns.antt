@@ -31,12 +31,6 @@ isFound (Turn.Takes k r) = true
 isFound Turn.Full = true
 isFound Turn.Nothing = false
 
--- the answer of turns that ended with t after n steps
-unfoldable pub endOf : Turn → ℕ → Settled
-endOf (Turn.Takes k r) n = Settled.Count n
-endOf Turn.Full n = Settled.Refused 40
-endOf Turn.Nothing n = Settled.Count n
-
 -- the number of the call of kind k at recorder r in view v, 35 for no member
 unfoldable pub memberNumber : Hall → View → ℕ → ℕ → ℕ
 memberNumber h v k r = elim (inMask (v .set) r) [ true ↦ plain (step hl3 h (settleCall (v .number) k r) .answer) .number | false ↦ 35 ]

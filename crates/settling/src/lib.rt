@@ -13,10 +13,10 @@ ghost use Rattle.model.specs.Settle.{cannotSettle, settleCall, settleCalls};
 ghost use Rattle.store.specs.Layout.{storedLength};
 ghost use Rattle.store.specs.StoredForm.{hallOf, isStored};
 ghost use Rattle.answer.specs.Meaning.{settledMeaning};
-ghost use Rattle.calls.specs.Calls.{settleOn};
+ghost use Rattle.calls.specs.Calls.{stepOn, settleOn};
 ghost use Rattle.calls.specs.Steps.{Settles};
 ghost use Rattle.progress.specs.AnyTurn.{anyTurn};
-ghost use Rattle.settling.specs.Turns.{found, isFound, endOf, memberNumber, TurnAt, InView, TurnsTaken, SettledCopy};
+ghost use Rattle.settling.specs.Turns.{found, isFound, memberNumber, TurnAt, InView, TurnsTaken, SettledCopy};
 use answer::Settled;
 use answer::plain_settled;
 use codec::or;
@@ -115,7 +115,11 @@ fn find_call(b: &[u8], v: View, k: u32) -> Turn
 fn is_found(t: Turn) -> bool
     ensures { λ x. ⌜ x ≡ isFound t ⌝ }
 {
-    if let Turn::Nothing = t { false } else { true }
+    match t {
+        Turn::Takes(_, _) => true,
+        Turn::Full => true,
+        Turn::Nothing => false,
+    }
 }
 
 // One turn in a view.
@@ -146,15 +150,13 @@ fn find_turn(b: &[u8], v: View) -> Turn
     Turn::Nothing
 }
 
-// The answer of turns that ended after count steps: 40, or the count.
-fn ended(t: Turn, count: u32) -> Settled
-    ensures { λ x. ⌜ x ≡ endOf t count ⌝ }
+// Performs the call of kind k at recorder r.
+fn take_call(work: &mut [u8], v: View, k: u32, r: u32)
+    requires { ⌜ isStored (now work) ≡ true ⌝ }
+    ensures { λ _. ⌜ now (work .exit) ≡ stepOn (now (work .entry)) (settleCall (v .number) k r) .bytes ⌝ }
 {
-    if let Turn::Full = t {
-        Settled::Refused(refusals::FULL)
-    } else {
-        Settled::Count(count)
-    }
+    let a = view_word(v.number, k);
+    step_hall(work, k, r, a, 0);
 }
 
 // Turns in the greatest view until none is left or 40 is met.
@@ -164,12 +166,11 @@ fn take_turns(work: &mut [u8], v: View) -> Settled
 {
     let mut count: u32 = 0;
     while count < MAX_TURNS as u32 {
-        let t = find_turn(work, v);
-        let Turn::Takes(k, r) = t else {
-            return ended(t, count);
-        };
-        let a = view_word(v.number, k);
-        step_hall(work, k, r, a, 0);
+        match find_turn(work, v) {
+            Turn::Takes(k, r) => take_call(work, v, k, r),
+            Turn::Full => return Settled::Refused(refusals::FULL),
+            Turn::Nothing => return Settled::Count(count),
+        }
         count += 1;
     }
     Settled::Count(count)
