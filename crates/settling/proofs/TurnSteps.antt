@@ -16,11 +16,14 @@ use Rattle.base.proofs.ListsLaws.{filter-in, filter-out}
 use Rattle.base.proofs.NumbersLaws.{upTo-numbers}
 use Rattle.quorum.specs.Sets.{inMask, members}
 use Rattle.model.specs.Hall.{Hall}
-use Rattle.model.specs.Answers.{plain}
+use Rattle.model.specs.Answers.{Answer, plain}
 use Rattle.model.specs.Actions.{Outcome}
-use Rattle.model.specs.Call.{Words, hl3, step}
+use Rattle.model.specs.Call.{Words, wordsOf, hl3, step}
 use Rattle.model.specs.Settle as model
 use Rattle.model.specs.Settle.{settleKinds, settleCall, callsUnder, settleCalls, takes, full, none, tried}
+use Rattle.store.specs.StoredForm.{hallOf, isStored}
+use Rattle.calls.specs.Calls.{stepOn}
+use Rattle.calls.proofs.HeldSteps.{step-answer}
 use Rattle.progress.specs.AnyTurn.{anyTurn}
 use Rattle.hall.specs.declared.View.{View}
 use Rattle.settling.specs.declared.Turn.{Turn}
@@ -46,7 +49,20 @@ tried-ends n w later = go (eqb n 0) (eqb n 40)
 
 pub tried-passes : (n : ℕ) (w : Words) (later : model.Turn) → ends n ≡ false → tried n w later ≡ later
 unfolding tried
-tried-passes n w later e = let both = or-none (eqb n 0) (eqb n 40) e in rw (both .0, both .1)
+tried-passes n w later e = let both = or-none (eqb n 0) (eqb n 40) e in rw (both .0, both .1, tried) refl
+
+-- the number that is judged on the bytes of a member's call
+pub member-call : (b : List ℕ) → isStored b ≡ true → (v : View) (k r a n : ℕ) → inMask (v .set) r ≡ true → a ≡ settleCall (v .number) k 0 .a
+    → n ≡ plain (stepOn b (wordsOf k r a 0) .answer) .number → n ≡ memberNumber (hallOf b) v k r
+unfolding memberNumber settleCall
+member-call b s v k r a n m e is =
+    is ∙ ap (λ x. plain (stepOn b (wordsOf k r x 0) .answer) .number) e
+    ∙ ap (λ (x : Answer). plain x .number) (step-answer b s (settleCall (v .number) k r))
+    ∙ sym (ap (λ (t : Bool). elim t [ true ↦ plain (step hl3 (hallOf b) (settleCall (v .number) k r) .answer) .number | false ↦ 35 ]) m)
+
+pub no-member : (h : Hall) (v : View) (k r : ℕ) → inMask (v .set) r ≡ false → 35 ≡ memberNumber h v k r
+unfolding memberNumber
+no-member h v k r m = sym (ap (λ (t : Bool). elim t [ true ↦ plain (step hl3 h (settleCall (v .number) k r) .answer) .number | false ↦ 35 ]) m)
 
 -- ## The recorders of one kind
 
@@ -58,9 +74,11 @@ module _ (h : Hall) (v : View) (k : ℕ) where
   unfoldable pub callsAbove : ℕ → ℕ → List Words
   callsAbove r m = map call (filter (inMask (v .set)) (numbers (suc r) m))
 
-  pub above-none : (n : ℕ) → anyTurn hl3 h (map call (members n (v .set))) ≡ anyTurn hl3 h (callsAbove 0 n)
+  pub above-none : (n : ℕ) → anyTurn hl3 h (map call (members n (v .set))) ≡ anyTurn hl3 h (callsAbove 0 (n - 0))
   unfolding members callsAbove
-  above-none n = ap (λ (l : List ℕ). anyTurn hl3 h (map call (filter (inMask (v .set)) l))) (upTo-numbers n)
+  above-none n =
+      let all : n ≡ n - 0 = omega arith in
+      ap (λ (l : List ℕ). anyTurn hl3 h (map call (filter (inMask (v .set)) l))) (upTo-numbers n) ∙ ap (λ m. anyTurn hl3 h (callsAbove 0 m)) all
 
   -- one recorder more
   above-one : (r m : ℕ) → anyTurn hl3 h (callsAbove r (suc m)) ≡ tried (memberNumber h v k (suc r)) (call (suc r)) (anyTurn hl3 h (callsAbove (suc r) m))

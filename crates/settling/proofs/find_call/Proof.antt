@@ -1,57 +1,74 @@
+-- The invariant: the calls at the members passed so far give nothing. Assumes nothing.
+use borrow.Author.Needs.{needs}
+use denote.Ref.{now}
+use native.Mathlib.Omega.{arith}
+use Prim.Native.Nat.{_-_, _≤_}
+use mathlib.Core.Path.{_≡_, refl, sym, ap, _∙_}
+use mathlib.Core.List.{map}
+use Rattle.quorum.specs.Sets.{members}
+use Rattle.model.specs.Call.{hl3}
+use Rattle.model.specs.Settle.{settleCall}
+use Rattle.store.specs.StoredForm.{hallOf}
+use Rattle.progress.specs.AnyTurn.{anyTurn}
+use Rattle.settling.specs.Turns.{found}
+use Rattle.settling.proofs.TurnSteps.{callsAbove, above-none, above-next, above-ends, above-all}
 use Rattle.settling.proofs.find_call.Statement.{statement}
 use Rattle.settling.proofs.find_call.Tie as tie
-use Rattle.settling.proofs.find_call.Reads as reads
-use Rattle.settling.proofs.find_call.Lts as lts
-use Rattle.hall.proofs.size.Reads as size-reads
-use Rattle.settling.proofs.is_end.Reads as is-end-reads
-use Rattle.settling.proofs.try_call.Reads as try-call-reads
-use Rattle.settling.proofs.turn_at.Reads as turn-at-reads
 
 abbrev Inv-loop : tie.InvT-loop
-Inv-loop b v k n r₀ r = ?
+Inv-loop b v k n r₀ r =
+    (r ≤ n)
+    × (anyTurn hl3 (hallOf b) (map (settleCall (v .number) k) (members n (v .set))) ≡ anyTurn hl3 (hallOf b) (callsAbove (hallOf b) v k r (n - r)))
 
 abbrev μ-loop : tie.MeasureT-loop
-μ-loop b v k n r₀ r = ?
+μ-loop b v k n r₀ r = n - r
 
--- src/lib.rt:102:9
 size-requires : tie.Need-size-requires Inv-loop μ-loop
-size-requires c κs = ?
+size-requires c κs = search needs
 
--- src/lib.rt:104:5
 loop-holds : tie.Need-loop-holds Inv-loop μ-loop
-loop-holds c = ?
+loop-holds c = let a = c .before .before .args in (search needs, above-none (hallOf (now (a .b))) (a .v) (a .k) (c .size .result))
 
--- src/lib.rt:105:9
 add-r : tie.Need-add-r Inv-loop μ-loop
-add-r c = ?
+add-r c = search needs
 
--- src/lib.rt:106:13
 try-call-requires : tie.Need-try-call-requires Inv-loop μ-loop
-try-call-requires c κs = ?
+try-call-requires c κs = (c .before .before .before .before .pre, search needs, search needs)
 
--- src/lib.rt:107:12
 is-end-requires : tie.Need-is-end-requires Inv-loop μ-loop
-is-end-requires c κs = ?
+is-end-requires c κs = search needs
 
--- src/lib.rt:108:13
 turn-at-requires : tie.Need-turn-at-requires Inv-loop μ-loop
-turn-at-requires c κs = ?
+turn-at-requires c κs = search needs
 
--- src/lib.rt:108:13
 returns : tie.Need-returns Inv-loop μ-loop
-returns c = ?
+returns c =
+    let a = c .before .before .before .before .before .before .before .before .args in
+    let l = c .before .before .before .before .before .loop in
+    let h = hallOf (now (a .b)) in
+    c .turn-at .ensures .turn (a .v .number)
+    ∙ sym (above-ends h (a .v) (a .k) (c .before .before .before .before .before .before .size .result) (l .r) (c .before .before .before .before .loop-test .taken) (c .before .before .before .try-call .result) (c .before .before .before .try-call .ensures) (sym (c .before .before .is-end .ensures) ∙ c .before .if1 .taken))
+    ∙ sym (l .inv .1)
+    ∙ ap (λ n. anyTurn hl3 h (map (settleCall (a .v .number) (a .k)) (members n (a .v .set)))) (c .before .before .before .before .before .before .size .ensures .0)
 
--- src/lib.rt:104:5
 loop-less : tie.Need-loop-less Inv-loop μ-loop
-loop-less c = ?
+loop-less c = search needs
 
--- src/lib.rt:104:5
 loop-again : tie.Need-loop-again Inv-loop μ-loop
-loop-again c = ?
+loop-again c =
+    let a = c .before .before .before .before .before .before .before .args in
+    let l = c .before .before .before .before .loop in
+    (search needs, l .inv .1 ∙ above-next (hallOf (now (a .b))) (a .v) (a .k) (c .before .before .before .before .before .size .result) (l .r) (c .before .before .before .loop-test .taken) (c .before .before .try-call .result) (c .before .before .try-call .ensures) (sym (c .before .is-end .ensures) ∙ c .if1 .left))
 
--- src/lib.rt:96:1
 returns-2 : tie.Need-returns-2 Inv-loop μ-loop
-returns-2 c = ?
+unfolding found
+returns-2 c =
+    let a = c .before .before .before .before .args in
+    let l = c .before .loop in
+    let h = hallOf (now (a .b)) in
+    above-all h (a .v) (a .k) (c .before .before .size .result) (l .r) (search needs)
+    ∙ sym (l .inv .1)
+    ∙ ap (λ n. anyTurn hl3 h (map (settleCall (a .v .number) (a .k)) (members n (a .v .set)))) (c .before .before .size .ensures .0)
 
 pub find-call-spec : {M : Type 1} → statement M
 find-call-spec =
