@@ -1,21 +1,39 @@
 -- The greatest view is the last formed one; a settle on a copy, and the copy written back. Assumes nothing.
-use Prim.Native.Nat.{ℕ, _-_, _≤_, _<_}
+use Prim.Native.Nat.{ℕ, _+_, _-_, _≤_, _<_}
 use native.Mathlib.Omega.{arith}
 use mathlib.Core.Path.{_≡_, refl, sym, ap, ap₂, _∙_, subst}
-use mathlib.Core.Bool.{Bool, true, false, not, _||_}
-use mathlib.Core.List.{List, [], _∷_, _++_}
+use mathlib.Core.Bool.{Bool, true, false, not, _||_, true≢false}
+use mathlib.Core.List.{List, [], _∷_, _++_, append-nil}
 use lib.Dec.{eqb}
 use lib.ListN.{length, getD, take, drop}
+use lib.Seq.{sets, sets-eq, length-take-le, take-at, drop-length}
 use borrow.Author.Tests.{eq-eqb, ne-eqb}
 use Rattle.base.specs.Lists.{greatest, has}
+use Rattle.base.proofs.Bools.{by-cases}
 use Rattle.base.proofs.ListsLaws.{key-has}
 use Rattle.model.specs.Hall.{Hall}
 use Rattle.model.specs.Refusals.{isPrimary}
-use Rattle.model.specs.Settle.{greatestView, cannotSettle}
-use Rattle.store.specs.StoredForm.{hallOf, isStored}
-use Rattle.store.proofs.StoredFormLaws.{hallOf-valid}
-use Rattle.progress.proofs.GreatestView.{greatest-last, formed-low}
-use Rattle.hall.specs.Parts.{viewIn, inView}
+use Rattle.model.specs.Answers.{Plain}
+use Rattle.model.specs.Call.{Words, WordsIn, hl3}
+use Rattle.model.specs.Run.{run}
+use Rattle.model.specs.Settle.{greatestView, cannotSettle, Settling, settled, refused, callsTaken, plainSettle, maxTurns, settleFrom, settle}
+use Rattle.model.proofs.Settling.SettleRun.{settle-words}
+use Rattle.store.specs.Layout.{storedLength}
+use Rattle.store.specs.Valid.{ValidHall}
+use Rattle.store.specs.StoredForm.{stored, hallOf, isStored}
+use Rattle.store.proofs.StoredFormLaws.{stored-block, isStored-long, hallOf-valid, stored-hallOf, stored-slice, isStored-first, hallOf-first}
+use Rattle.store.proofs.KeepValid.{run-valid}
+use Rattle.answer.specs.declared.Settled.{Settled}
+use Rattle.answer.specs.Meaning.{settledMeaning}
+use Rattle.calls.specs.Calls.{runOn, settlingOn, SettleOutcome, settleOn}
+use Rattle.calls.specs.Steps.{Settles}
+use Rattle.calls.proofs.RunLaw.{run-stored}
+use Rattle.progress.proofs.GreatestView.{greatest-last, greatest-number, formed-low}
+use Rattle.hall.specs.declared.View.{View}
+use Rattle.hall.specs.Parts.{HasView, ViewIs, viewIn, inView}
+use Rattle.step.specs.Numbers.{bytesNumber}
+use Rattle.step.proofs.StepsLaws.{bytes-hold, bytes-hall, bytes-broken}
+use Rattle.settling.specs.Turns.{InView, TurnsTaken, SettledCopy}
 
 -- ## 42
 
@@ -45,3 +63,183 @@ barred-last b count s e ne p i =
     let low = formed-low h (hallOf-valid b s) (viewIn b (count - 1)) formed in
     ap not (i ∙ ap (isPrimary h) last)
     ∙ sym (ap (λ (t : Bool). t || not (isPrimary h (greatestView h))) (ne-eqb (greatestView h) 0 (λ z. omega (arith, low, last))))
+
+-- a hall that is not barred has a view
+pub some-view : (b : List ℕ) (count : ℕ) → count ≡ length (hallOf b .service .created) → cannotSettle (hallOf b) ≡ false → count ≡ 0 → ⊥
+some-view b count e t z = true≢false (barred-none b count e z ∙ t)
+
+-- ## The settle of a slice, case by case
+
+module _ (b : List ℕ) where
+  pub settling-broken : isStored b ≡ false → settlingOn b ≡ refused 31
+  unfolding settlingOn
+  settling-broken s = ap (λ (t : Bool). elim t [ true ↦ settle hl3 (hallOf b) | false ↦ refused 31 ]) s
+
+  pub settling-held : isStored b ≡ true → settlingOn b ≡ settle hl3 (hallOf b)
+  unfolding settlingOn
+  settling-held s = ap (λ (t : Bool). elim t [ true ↦ settle hl3 (hallOf b) | false ↦ refused 31 ]) s
+
+by-barred : Hall → Bool → Settling
+by-barred h t = elim t [ true ↦ refused 42 | false ↦ settleFrom hl3 maxTurns (greatestView h) h ]
+
+settle-barred : (h : Hall) → cannotSettle h ≡ true → settle hl3 h ≡ refused 42
+unfolding settle by-barred
+settle-barred h t = ap (by-barred h) t
+
+settle-goes : (h : Hall) → cannotSettle h ≡ false → settle hl3 h ≡ settleFrom hl3 maxTurns (greatestView h) h
+unfolding settle by-barred
+settle-goes h t = ap (by-barred h) t
+
+-- a refusal on a copy
+copy-refused : (b : List ℕ) (n : ℕ) → (n ≡ 0 → ⊥) → settlingOn b ≡ refused n → (x : Settled) → x ≡ Settled.Refused n → (c : List ℕ) → SettledCopy b x c
+unfolding settleOn settledMeaning plainSettle
+copy-refused b n ne is x e c =
+    record {
+      answer = ap settledMeaning e ∙ sym (ap plainSettle is);
+      bytes = λ z. absurd (ne (sym (ap (λ (y : Settled). settledMeaning y .number) e) ∙ z));
+    }
+
+-- 31
+pub copy-broken : (b : List ℕ) (n : ℕ) → n ≡ bytesNumber b → (n ≡ 0 → ⊥) → (x : Settled) → x ≡ Settled.Refused n → (c : List ℕ) → SettledCopy b x c
+copy-broken b n e ne x is c = by (isStored b) refl
+  where
+    by : (t : Bool) → isStored b ≡ t → SettledCopy b x c
+    by true t = absurd (ne (e ∙ sym (bytes-hall b t)))
+    by false t =
+        let n-is : n ≡ 31 = e ∙ sym (bytes-broken b t) in
+        copy-refused b n ne (settling-broken b t ∙ ap refused (sym n-is)) x is c
+
+-- 42
+pub copy-barred : (b : List ℕ) → isStored b ≡ true → cannotSettle (hallOf b) ≡ true → (x : Settled) → x ≡ Settled.Refused 42 → (c : List ℕ) → SettledCopy b x c
+copy-barred b s t x is c = copy-refused b 42 (λ z. absurd (omega arith)) (settling-held b s ∙ settle-barred (hallOf b) t) x is c
+
+-- ## The copy
+
+take-whole : (n : ℕ) (xs : List ℕ) → length xs ≡ n → take n xs ≡ xs
+take-whole n xs l = sym (ap (take n) (append-nil xs)) ∙ take-at xs [] n l
+
+-- a list written over the beginning of another, and over one as long
+pub front-written : (n : ℕ) (xs b : List ℕ) → length xs ≡ n → n ≤ length b → sets b 0 xs ≡ xs ++ drop n b
+front-written n xs b l few =
+    let at : 0 + length xs ≡ n = omega arith in
+    sets-eq xs b 0 (omega arith) ∙ ap (λ k. xs ++ drop k b) at
+
+whole-written : (n : ℕ) (xs w : List ℕ) → length xs ≡ n → length w ≡ n → sets w 0 xs ≡ xs
+whole-written n xs w l m =
+    front-written n xs w l (omega arith) ∙ ap (λ k. xs ++ drop k w) (sym m) ∙ ap (λ (r : List ℕ). xs ++ r) (drop-length w) ∙ append-nil xs
+
+-- a slice of the stored length, with the stored part of b written in it
+pub copied : (b w : List ℕ) → isStored b ≡ true → length w ≡ storedLength → sets w 0 (take storedLength b) ≡ take storedLength b
+copied b w s l = whole-written storedLength (take storedLength b) w (length-take-le storedLength b (isStored-long b s)) l
+
+-- b holds a hall, and c is a copy of its stored part
+module _ (b : List ℕ) (s : isStored b ≡ true) (c : List ℕ) (is : c ≡ take storedLength b) where
+  pub copy-holds : isStored c ≡ true
+  copy-holds = ap isStored is ∙ isStored-first b (isStored-long b s) ∙ s
+
+  pub copy-hall : hallOf c ≡ hallOf b
+  copy-hall = ap hallOf is ∙ hallOf-first b
+
+  -- the view at the last index is the copy's greatest
+  module _ (count : ℕ) (many : count ≡ length (hallOf b .service .created)) where
+    copy-many : count ≡ length (hallOf c .service .created)
+    copy-many = many ∙ sym (ap (λ (h : Hall). length (h .service .created)) copy-hall)
+
+    pub copy-has : (count ≡ 0 → ⊥) → HasView c (count - 1)
+    copy-has ne = record { holds = copy-holds; within = omega (arith, copy-many) }
+
+    pub copy-view : (v : View) → ViewIs (hallOf c) (viewIn c (count - 1)) v → InView c v
+    copy-view v i = record { holds = copy-holds; view = subst (λ g. ViewIs (hallOf c) g v) (last-view c count copy-holds copy-many) i }
+
+  abbrev h : Hall
+  h = hallOf b
+
+  abbrev rest : List ℕ
+  rest = drop storedLength b
+
+  valid : ValidHall h
+  valid = hallOf-valid b s
+
+  -- a run on b, and on the copy
+  run-whole : (ws : List Words) → WordsIn ws → runOn b ws ≡ stored (run hl3 h ws) ++ rest
+  run-whole ws low = ap (λ (x : List ℕ). runOn x ws) (sym (stored-slice b s)) ∙ run-stored h rest ws valid low .0
+
+  run-first : (ws : List Words) → WordsIn ws → stored (run hl3 h ws) ≡ take storedLength (runOn b ws)
+  run-first ws low =
+      sym (ap (take storedLength) (run-whole ws low) ∙ take-at (stored (run hl3 h ws)) rest storedLength (stored-block (run hl3 h ws) (run-valid hl3 h ws low valid) .len))
+
+  copy-run : (ws : List Words) → WordsIn ws → runOn c ws ≡ take storedLength (runOn b ws)
+  copy-run ws low =
+      ap (λ (x : List ℕ). runOn x ws) (is ∙ sym (stored-hallOf b s) ∙ sym (append-nil (stored h)))
+      ∙ run-stored h [] ws valid low .0 ∙ append-nil (stored (run hl3 h ws)) ∙ run-first ws low
+
+  low-words : WordsIn (callsTaken (settle hl3 h))
+  low-words = settle-words hl3 h (omega (arith, greatest-number h valid))
+
+  -- turns on the copy are the settle's
+  pub copy-settled : cannotSettle h ≡ false → (v : View) → InView c v → (x : Settled) (d : List ℕ) → TurnsTaken c v x d → SettledCopy b x d
+  unfolding settleOn
+  copy-settled t v i x d taken =
+      let same : settleFrom hl3 maxTurns (v .number) (hallOf c) ≡ settle hl3 h =
+      ap₂ (λ (g : ℕ) (k : Hall). settleFrom hl3 maxTurns g k) (i .view .number ∙ ap greatestView copy-hall) copy-hall ∙ sym (settle-goes h t) in
+      let on = settling-held b s in
+      record {
+        answer = taken .answer ∙ ap plainSettle (same ∙ sym on);
+        bytes = λ z.
+            taken .bytes z ∙ ap (λ (y : Settling). runOn c (callsTaken y)) same ∙ copy-run (callsTaken (settle hl3 h)) low-words
+            ∙ ap (λ (y : Settling). take storedLength (runOn b (callsTaken y))) (sym on);
+      }
+
+  -- the copy written back
+  pub copy-back : take storedLength (settleOn b .bytes) ++ drop storedLength b ≡ settleOn b .bytes
+  unfolding settleOn
+  copy-back =
+      let ws = callsTaken (settle hl3 h) in
+      let on = ap (λ (y : Settling). runOn b (callsTaken y)) (settling-held b s) in
+      ap (λ (x : List ℕ). take storedLength x ++ rest) on ∙ ap (λ (x : List ℕ). x ++ rest) (sym (run-first ws low-words)) ∙ sym (run-whole ws low-words) ∙ sym on
+
+-- ## The answer of the whole
+
+-- a settle that is taken was made on bytes that hold a hall
+settled-held : (b : List ℕ) → settleOn b .answer .number ≡ 0 → isStored b ≡ true
+unfolding settleOn plainSettle
+settled-held b z = by-cases (isStored b) (λ t. t) (λ t. let n : _≡_ {A = ℕ} 31 0 = sym (ap (λ (y : Settling). plainSettle y .number) (settling-broken b t)) ∙ z in absurd (omega arith))
+
+count-held : (b : List ℕ) (n : ℕ) (x : Settled) → x ≡ Settled.Count n → (c : List ℕ) → SettledCopy b x c → isStored b ≡ true
+unfolding settledMeaning
+count-held b n x e c copy =
+    settled-held b (sym (ap (λ (p : Plain). p .number) (copy .answer)) ∙ ap (λ (y : Settled). settledMeaning y .number) e)
+
+-- so they have room for its copy
+pub settle-room : (b : List ℕ) (n : ℕ) (x : Settled) → x ≡ Settled.Count n → (c : List ℕ) → SettledCopy b x c → storedLength ≤ length b
+settle-room b n x e c copy = isStored-long b (count-held b n x e c copy)
+
+-- its copy is written back
+pub settle-taken : (b : List ℕ) (n : ℕ) (x : Settled) → x ≡ Settled.Count n → (c : List ℕ) → SettledCopy b x c → length c ≡ storedLength
+    → (d : List ℕ) → d ≡ sets b 0 (take storedLength c) → Settles b x d
+unfolding settledMeaning
+settle-taken b n x e c copy l d is =
+    let z : settledMeaning x .number ≡ 0 = ap (λ (y : Settled). settledMeaning y .number) e in
+    let s = count-held b n x e c copy in
+    let whole : take storedLength c ≡ c = take-whole storedLength c l in
+    record {
+      answer = copy .answer;
+      bytes =
+          is ∙ ap (sets b 0) whole ∙ front-written storedLength c b l (isStored-long b s)
+          ∙ ap (λ (r : List ℕ). r ++ drop storedLength b) (copy .bytes z) ∙ copy-back b s (take storedLength b) refl;
+    }
+
+-- a refused one leaves the bytes
+pub settle-refused : (b : List ℕ) (n : ℕ) (x : Settled) → x ≡ Settled.Refused n → (c : List ℕ) → SettledCopy b x c → Settles b x b
+unfolding settleOn settledMeaning plainSettle callsTaken runOn
+settle-refused b n x e c copy = record { answer = copy .answer; bytes = by (settlingOn b) refl }
+  where
+    none-taken : (ws : List Words) → length ws ≡ 0 → b ≡ runOn b ws
+    none-taken [] l = refl
+    none-taken (w ∷ ws) l = absurd (omega arith)
+
+    by : (y : Settling) → settlingOn b ≡ y → b ≡ runOn b (callsTaken y)
+    by (settled ws) i =
+        none-taken ws
+        (sym (ap (λ (p : Plain). getD (p .values) 0 0) (sym (ap settledMeaning e) ∙ copy .answer ∙ ap plainSettle i)))
+    by (refused k) i = refl

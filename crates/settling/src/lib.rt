@@ -227,9 +227,11 @@ pub fn settle(bytes: &mut [u8]) -> Settled
 {
     let mut work = [0u8; HALL];
     let x = settle_copy(bytes, &mut work);
-    let Settled::Count(_) = x else {
-        return x;
-    };
-    put_bytes(bytes, 0, &work, HALL);
-    x
+    match x {
+        Settled::Count(_) => {
+            put_bytes(bytes, 0, &work, HALL);
+            x
+        }
+        Settled::Refused(_) => x,
+    }
 }

@@ -1,49 +1,47 @@
+-- The copy of a settle that is taken is written back. Assumes nothing.
 use borrow.Author.Needs.{needs}
+use denote.Ref.{now}
+use native.Mathlib.Omega.{arith}
+use mathlib.Core.Path.{_≡_, refl, sym, ap, _∙_}
+use Rattle.settling.proofs.CopyLaws.{settle-room, settle-taken, settle-refused}
 use Rattle.settling.proofs.settle.Statement.{statement}
 use Rattle.settling.proofs.settle.Tie as tie
-use Rattle.settling.proofs.settle.Reads as reads
-use Rattle.settling.proofs.settle.Lts as lts
-use Rattle.codec.proofs.put_bytes.Reads as put-bytes-reads
-use Rattle.settling.proofs.settle_copy.Reads as settle-copy-reads
 
--- src/lib.rt:229:32
 slice-aggregate-settle-copy : tie.Need-slice-aggregate-settle-copy
 slice-aggregate-settle-copy c = search needs
 
--- src/lib.rt:229:9
 settle-copy-requires : tie.Need-settle-copy-requires
 settle-copy-requires c κs = search needs
 
 enum-told : tie.Need-enum-told
 enum-told c = search needs
 
--- src/lib.rt:231:9
-enum-told-2 : tie.Need-enum-told-2
-enum-told-2 c = search needs
-
--- src/lib.rt:231:9
-same-length : tie.Need-same-length
-same-length c = search needs
-
--- src/lib.rt:231:9
-returns : tie.Need-returns
-returns c = ?
-
--- src/lib.rt:233:25
 slice-aggregate-put-bytes : tie.Need-slice-aggregate-put-bytes
 slice-aggregate-put-bytes c = search needs
 
--- src/lib.rt:233:5
 put-bytes-requires : tie.Need-put-bytes-requires
-put-bytes-requires c κs = ?
+put-bytes-requires c κs =
+    (
+      omega (arith, c .before .before .before .before .before .settle-copy .kept .1 .0),
+      settle-room (now (c .before .before .before .before .before .before .before .before .before .args .bytes)) _ (c .before .before .before .before .before .settle-copy .result) (c .before .before .enum-told .given .1) _ (c .before .before .before .before .before .settle-copy .ensures),
+    )
 
--- src/lib.rt:225:1
+enum-told-2 : tie.Need-enum-told-2
+enum-told-2 c = search needs
+
+same-length : tie.Need-same-length
+same-length c = search needs
+
+returns : tie.Need-returns
+returns c =
+    settle-taken (now (c .before .before .before .before .before .before .before .before .before .before .before .before .args .bytes)) _ (c .before .before .before .before .before .before .before .before .settle-copy .result) (c .before .before .before .before .before .enum-told .given .1) _ (c .before .before .before .before .before .before .before .before .settle-copy .ensures) (c .before .before .before .before .before .before .before .before .settle-copy .kept .1 .0) _
+    (c .before .before .put-bytes .ensures)
+
 same-length-2 : tie.Need-same-length-2
 same-length-2 c = search needs
 
--- src/lib.rt:225:1
 returns-2 : tie.Need-returns-2
-returns-2 c = ?
+returns-2 c = settle-refused (now (c .before .before .before .before .before .before .before .args .bytes)) _ (c .before .before .before .settle-copy .result) (c .enum-told2 .given .1) _ (c .before .before .before .settle-copy .ensures)
 
 pub settle-spec : {M : Type 1} → statement M
 settle-spec =
@@ -52,10 +50,10 @@ settle-spec =
     slice-aggregate-settle-copy
     settle-copy-requires
     enum-told
+    slice-aggregate-put-bytes
+    put-bytes-requires
     enum-told-2
     same-length
     returns
-    slice-aggregate-put-bytes
-    put-bytes-requires
     same-length-2
     returns-2)

@@ -1,28 +1,24 @@
+-- 31, or the hall's settle. Assumes nothing.
 use borrow.Author.Needs.{needs}
+use denote.Ref.{now}
+use mathlib.Core.Path.{_≡_, refl, sym, _∙_}
+use Rattle.step.proofs.StepsLaws.{bytes-hold}
+use Rattle.settling.proofs.CopyLaws.{copy-broken}
 use Rattle.settling.proofs.settle_copy.Statement.{statement}
 use Rattle.settling.proofs.settle_copy.Tie as tie
-use Rattle.settling.proofs.settle_copy.Reads as reads
-use Rattle.settling.proofs.settle_copy.Lts as lts
-use Rattle.settling.proofs.settle_hall.Reads as settle-hall-reads
-use Rattle.step.proofs.bytes_refusal.Reads as bytes-refusal-reads
 
--- src/lib.rt:209:9
 bytes-refusal-requires : tie.Need-bytes-refusal-requires
 bytes-refusal-requires c κs = search needs
 
--- src/lib.rt:211:9
 returns : tie.Need-returns
-returns c = ?
+returns c = copy-broken (now (c .before .before .before .before .args .bytes)) (c .before .bytes-refusal .result) (c .before .bytes-refusal .ensures) (c .if1 .taken) _ refl _
 
--- src/lib.rt:213:5
 settle-hall-requires : tie.Need-settle-hall-requires
-settle-hall-requires c κs = ?
+settle-hall-requires c κs = (bytes-hold (now (c .before .before .before .before .before .args .bytes)) (sym (c .before .before .bytes-refusal .ensures) ∙ c .before .if1 .left), c .before .before .before .before .before .pre)
 
--- src/lib.rt:205:1
 same-length : tie.Need-same-length
 same-length c = search needs
 
--- src/lib.rt:205:1
 returns-2 : tie.Need-returns-2
 returns-2 c = search needs
 

@@ -64,12 +64,11 @@ loop-less c = search needs
 loop-again : tie.Need-loop-again Inv-loop μ-loop
 loop-again c =
     let a = c .before .before .before .before .before .before .before .before .before .before .before .before .args in
-    let l = c .before .before .before .before .before .before .before .before .before .before .loop in
-    (
+    let l = c .before .before .before .before .before .before .before .before .before .before .loop in (
       c .before .before .take-call .kept .0 ∙ l .inv .0,
       search needs,
       going-next (now (a .work)) (a .v) (l .count) _ (l .inv .2) (c .before .before .before .before .before .before .before .before .before .loop-test .taken) (c .before .before .before .before .before .before .before .find-turn .result) (c .before .before .before .before .before .before .before .find-turn .ensures) _ _ (c .before .before .before .before .before .k .given .1) _
-          (c .before .before .take-call .ensures)
+          (c .before .before .take-call .ensures),
     )
 
 same-length-3 : tie.Need-same-length-3 Inv-loop μ-loop
