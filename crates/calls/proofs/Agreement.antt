@@ -12,23 +12,20 @@ use lib.ListN.{length, drop}
 use lib.Seq.{sets, sets-eq}
 use borrow.Author.Tests.{eqb-true, eqb-false, eq-eqb, ne-eqb, ltb-true, ltb-false}
 use Rattle.base.proofs.Bools.{by-cases, and-true}
-use Rattle.base.proofs.Greatest.{greatest-least}
-use Rattle.model.specs.Hall.{maxNumber, Entries, Hall, Payload}
+use Rattle.model.specs.Hall.{Entries, Hall, Payload}
 use Rattle.model.specs.Answers.{Answer, from, Plain, plain, accepted}
 use Rattle.model.specs.Refusals.{orderAt}
 use Rattle.model.specs.Opening.{Opening}
 use Rattle.model.specs.Call.{Words, WordsIn, hl3, step}
 use Rattle.model.specs.Run.{accepts}
-use Rattle.model.specs.Settle.{greatestView, Settling, settle, callsTaken}
+use Rattle.model.specs.Settle.{callsTaken}
 use Rattle.model.specs.Agreed.{Agreed}
 use Rattle.model.proofs.Accepting.Accepted.{accepts-deliver}
-use Rattle.model.proofs.Settling.SettleRun.{settle-words}
 use Rattle.codec.specs.Bytes.{part, zeros}
 use Rattle.codec.specs.Number.{digits, value}
 use Rattle.codec.proofs.NumberLaws.{value-digits}
 use Rattle.store.specs.Valid.{PayloadIn, EntriesIn, ValidHall}
-use Rattle.store.specs.StoredForm.{stored, hallOf, isStored}
-use Rattle.store.proofs.StoredFormLaws.{hallOf-valid}
+use Rattle.store.specs.StoredForm.{stored}
 use Rattle.store.proofs.KeepFacts.{inside?}
 use Rattle.store.proofs.KeepValid.{payloads-in}
 use Rattle.calls.specs.Calls.{stepOn, openOn, runOn, settlingOn, SettleOutcome, settleOn}
@@ -37,6 +34,7 @@ use Rattle.calls.specs.Lent.{answerLength, wordsBytes, answerBytes, with
 use Rattle.calls.specs.Histories.{Made, historyOf, Opens, madeOn, historyOn, settleMade, StepCall, SettleCall, HallCall, steps, settles, StepsMet, stepWords, stepsLeft, stepsMade, LentStep, LentSettle, LentCall, LentMet, lentWords, lentLeft, wordIn, deliverIn, lentMade}
 use Rattle.calls.proofs.RunLaw.{step-stored}
 use Rattle.calls.proofs.Refused.{lent-refused, lent-short, lent-done, lent-taken, refused-keeps}
+use Rattle.calls.proofs.SettleLaws.{settle-low}
 use Rattle.calls.proofs.Runs.{Performs, Turned, Sound, sound-agree}
 
 -- ## Calls of the definition
@@ -64,19 +62,6 @@ agreement-on b o t ws low =
 sound-append : (b : List ℕ) (ms : List Made) (c : List ℕ) (ns : List Made) (d : List ℕ) → Sound b ms c → Sound c ns d → Sound b (ms ++ ns) d
 sound-append b [] c ns d s t = subst (λ (x : List ℕ). Sound x ns d) s t
 sound-append b (m ∷ ms) c ns d s t = (s .0, sound-append (m .after) ms c ns d (s .1) t)
-
--- a view's number is a 32-bit word
-view-word : (h : Hall) → ValidHall h → greatestView h < 2 ^ 32
-unfolding greatestView
-view-word h v = let low = greatest-least (λ g. g) (h .service .created) maxNumber (v .inRange .views .numberIn) in omega (arith, low)
-
-settle-low : (b : List ℕ) → WordsIn (callsTaken (settlingOn b))
-unfolding settlingOn callsTaken
-settle-low b = go (isStored b) refl
-  where
-    go : (t : Bool) → isStored b ≡ t → WordsIn (callsTaken (elim t [ true ↦ settle hl3 (hallOf b) | false ↦ Settling.refused 31 ]))
-    go true t = settle-words hl3 (hallOf b) (view-word (hallOf b) (hallOf-valid b t))
-    go false t = tt
 
 words-append : (xs ys : List Made) → WordsIn (map (λ (m : Made). m .words) xs) → WordsIn (map (λ (m : Made). m .words) ys)
     → WordsIn (map (λ (m : Made). m .words) (xs ++ ys))

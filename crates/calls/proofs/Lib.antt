@@ -2,6 +2,7 @@ pub mod OpenLaws
 pub mod RunLaw
 pub mod HeldSteps
 pub mod Refused
+pub mod SettleLaws
 pub mod Runs
 pub mod Agreement
 pub mod Unshifted

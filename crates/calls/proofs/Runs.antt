@@ -22,8 +22,8 @@ use Rattle.store.specs.Valid.{ValidHall}
 use Rattle.store.specs.StoredForm.{stored, hallOf}
 use Rattle.store.proofs.StoredFormLaws.{hallOf-stored}
 use Rattle.store.proofs.KeepValid.{step-valid, run-valid, open-valid}
-use Rattle.calls.specs.Calls.{withHall, stepOn, openOn}
-use Rattle.calls.specs.Histories.{Made, gathered, historyOf}
+use Rattle.calls.specs.Calls.{withHall, stepOn, openOn, runOn}
+use Rattle.calls.specs.Histories.{Made, gathered, historyOf, madeOn, historyOn}
 use Rattle.calls.proofs.OpenLaws.{open-done}
 use Rattle.calls.proofs.RunLaw.{step-stored}
 
@@ -123,6 +123,65 @@ run-of h rest (m ∷ ms) c v low s =
     (λ p. one-turned h rest m ms c p (run-of h rest ms c v (low .1) (subst (λ (x : List ℕ). Sound x ms c) (p .after) (s .1))))
     (s .0)
 
+-- ## What such calls leave is what the run of the performed ones leaves
+
+module _ (h₀ : Hall) (rest : List ℕ) (valid : ValidHall h₀) (ms : List Made) (c : List ℕ) (found : RunOf h₀ rest ms c) where
+  -- the hall in the bytes before a call
+  hall-before : (h : Hall) → ValidHall h → (m : Made) → Performs (stored h ++ rest) m → hallOf (m .before) ≡ h
+  hall-before h v m p = ap hallOf (p .before) ∙ hallOf-stored h v rest
+
+  hall-left : hallOf c ≡ run hl3 h₀ (found .words)
+  hall-left = ap hallOf (found .bytes) ∙ hallOf-stored _ (run-valid hl3 h₀ (found .words) (found .inRange) valid) rest
+
+  pub history-of : history hl3 h₀ (found .words) ≡ historyOf ms c
+  unfolding submitted labelledAt delivered deliverAnswers
+  history-of =
+      λ i. record {
+        submitted = fun-ext (λ (s : ℕ). ap (itemsFrom s 1)
+            (sym (found .lists 1 s (λ m. payloadOf (m .words .a)) (λ h w. payloadOf (w .a)) (λ h v m p k y. refl)))) i;
+        labelled = fun-ext (λ (s : ℕ). sym (found .lists 2 s (λ m. firstWaiting (hallOf (m .before)) s) (λ h w. firstWaiting h s)
+            (λ h v m p k y. ap (λ (g : Hall). firstWaiting g s) (hall-before h v m p)))) i;
+        delivered = fun-ext (λ (r : ℕ). sym (found .lists 11 r (λ m. atReport (hallOf (m .before)) r) (λ h w. atReport h r)
+            (λ h v m p k y. ap (λ (g : Hall). atReport g r) (hall-before h v m p)))) i;
+        deliverAnswers = fun-ext (λ (r : ℕ). sym (found .lists 11 r (λ m. m .answer) (λ h w. step hl3 h w .answer)
+            (λ h v m p k y. p .answer h rest v refl k y ∙ step-stored h v rest (m .words) .0))) i;
+        last = sym hall-left i;
+      }
+
+-- the steps of the definition are such calls, and all of them are performed
+pub record MadeRun (h : Hall) (rest : List ℕ) (ws : List Words) (b : List ℕ) : Type 1 where
+  pub found : RunOf h rest (madeOn b ws) (runOn b ws)
+  pub same : found .words ≡ ws
+
+pub made-run : (h : Hall) (rest : List ℕ) (ws : List Words) → ValidHall h → WordsIn ws → MadeRun h rest ws (stored h ++ rest)
+unfolding madeOn runOn run gathered collect one-performed
+made-run h rest [] v low = record { found = record { words = []; inRange = tt; bytes = refl; lists = λ k r f g same. refl }; same = refl }
+made-run h rest (w ∷ ws) v low =
+    let b = stored h ++ rest in
+    let c = stepOn b w .bytes in
+    let later = subst (MadeRun (step hl3 h w .hall) rest ws) (sym (step-stored h v rest w .1))
+    (made-run (step hl3 h w .hall) rest ws (step-valid hl3 h w (low .0) v) (low .1)) in
+    let made : Made = record { words = w; before = b; taken = accepted (stepOn b w .answer); answer = stepOn b w .answer; after = c } in
+    record {
+      found =
+          one-performed h rest made (madeOn c ws) (runOn c ws) v (low .0)
+          (record { before = refl; taken = refl; after = refl; answer = λ h rest v e k t. refl })
+          (later .found);
+      same = ap (λ (l : List Words). w ∷ l) (later .same);
+    }
+
+-- so they leave the lists of the model's run
+pub history-on : (b : List ℕ) (o : Opening) → openOn b o .number ≡ 0 → (ws : List Words) → WordsIn ws
+    → history hl3 (opened o) ws ≡ historyOn (openOn b o .bytes) ws
+unfolding withHall
+history-on b o t ws low =
+    let done = open-done b o t in
+    let rest = drop storedLength b in
+    let valid = open-valid o (done .0) in
+    let made = subst (MadeRun (opened o) rest ws) (sym (done .1)) (made-run (opened o) rest ws valid low) in
+    let c = openOn b o .bytes in
+    ap (history hl3 (opened o)) (sym (made .same)) ∙ history-of (opened o) rest valid (madeOn c ws) (runOn c ws) (made .found)
+
 -- ## Demand 3 of such calls
 
 module _ (b : List ℕ) (o : Opening) (t : openOn b o .number ≡ 0) (ms : List Made) (c : List ℕ)
@@ -143,31 +202,8 @@ module _ (b : List ℕ) (o : Opening) (t : openOn b o .number ≡ 0) (ms : List 
   found : RunOf (opened o) rest ms c
   found = run-of (opened o) rest ms c valid low (subst (λ (x : List ℕ). Sound x ms c) bytes-are s)
 
-  -- the hall in the bytes before a call
-  hall-before : (h : Hall) → ValidHall h → (m : Made) → Performs (stored h ++ rest) m → hallOf (m .before) ≡ h
-  hall-before h v m p = ap hallOf (p .before) ∙ hallOf-stored h v rest
-
-  hall-left : hallOf c ≡ run hl3 (opened o) (found .words)
-  hall-left = ap hallOf (found .bytes) ∙ hallOf-stored _ (run-valid hl3 (opened o) (found .words) (found .inRange) valid) rest
-
-  -- what the calls leave is what the run of the performed ones leaves
-  history-is : history hl3 (opened o) (found .words) ≡ historyOf ms c
-  unfolding submitted labelledAt delivered deliverAnswers
-  history-is =
-      λ i. record {
-        submitted = fun-ext (λ (s : ℕ). ap (itemsFrom s 1)
-            (sym (found .lists 1 s (λ m. payloadOf (m .words .a)) (λ h w. payloadOf (w .a)) (λ h v m p k y. refl)))) i;
-        labelled = fun-ext (λ (s : ℕ). sym (found .lists 2 s (λ m. firstWaiting (hallOf (m .before)) s) (λ h w. firstWaiting h s)
-            (λ h v m p k y. ap (λ (g : Hall). firstWaiting g s) (hall-before h v m p)))) i;
-        delivered = fun-ext (λ (r : ℕ). sym (found .lists 11 r (λ m. atReport (hallOf (m .before)) r) (λ h w. atReport h r)
-            (λ h v m p k y. ap (λ (g : Hall). atReport g r) (hall-before h v m p)))) i;
-        deliverAnswers = fun-ext (λ (r : ℕ). sym (found .lists 11 r (λ m. m .answer) (λ h w. step hl3 h w .answer)
-            (λ h v m p k y. p .answer h rest v refl k y ∙ step-stored h v rest (m .words) .0))) i;
-        last = sym hall-left i;
-      }
-
   pub sound-agree : Agreed (historyOf ms c)
-  sound-agree = subst Agreed history-is (hl3-agreement o none-refused (found .words))
+  sound-agree = subst Agreed (history-of (opened o) rest valid ms c found) (hl3-agreement o none-refused (found .words))
 
   -- the bytes then hold the hall that 01's rules and refusals give from the opening and the words of the performed calls
   pub sound-bytes : RunOf (opened o) (drop storedLength b) ms c

@@ -24,7 +24,7 @@ use Rattle.model.specs.Settle.{greatestView, cannotSettle, none, turnOf, Settli
 use Rattle.model.proofs.Agreement.EntryLaws.{ofSender, of-sender-in}
 use Rattle.model.proofs.Agreement.RunLists.{listed-opened, opened-none, submitted-are}
 use Rattle.model.proofs.Agreement.Delivered.{reportedEntries, delivered-are}
-use Rattle.model.proofs.Agreement.Claims.{reported-sender}
+use Rattle.model.proofs.Agreement.Claims.{items-of, reported-sender}
 use Rattle.model.proofs.Agreement.Invariants.{Inv}
 use Rattle.model.proofs.Agreement.Reached.{inv-keep, inv-run, inv-opened}
 use Rattle.model.proofs.Accepting.Accepted.{run-keeps}
@@ -34,7 +34,7 @@ use Rattle.store.specs.Valid.{ValidHall}
 use Rattle.store.proofs.KeepValid.{run-valid, open-valid}
 use Rattle.progress.proofs.Once.{once-run}
 use Rattle.progress.proofs.SafeExactly.{safe-run}
-use Rattle.progress.proofs.Ends.{settle-ends, settle-stands}
+use Rattle.progress.proofs.Ends.{not-refused, settle-ends, settle-stands}
 use Rattle.progress.proofs.End.{end-has}
 
 -- ## Lists
@@ -59,18 +59,6 @@ begins-all a xs ys r b f = go (b .more) (b .joins)
         absurd
         (rising-apart a xs y more (ap (rising a) (sym e) ∙ r)
         (f y (ap (λ l. has l y) e ∙ has-right xs (y ∷ more) y (has-head y more))))
-
--- the items of sender s are the items of its entries
-items-of : (es : Entries) (s : ℕ) (xs : List ℕ) → ofItems s (map (itemOf es) xs) ≡ map (itemOf es) (filter (λ e. eqb (es .sender e) s) xs)
-unfolding ofItems filter itemOf
-items-of es s [] = refl
-items-of es s (x ∷ xs) = go (items-of es s xs) (eqb (es .sender x) s)
-  where
-    go : ofItems s (map (itemOf es) xs) ≡ map (itemOf es) (filter (λ e. eqb (es .sender e) s) xs) → (b : Bool)
-        → elim b [ true ↦ itemOf es x ∷ ofItems s (map (itemOf es) xs) | false ↦ ofItems s (map (itemOf es) xs) ]
-        ≡ map (itemOf es) (elim b [ true ↦ x ∷ filter (λ e. eqb (es .sender e) s) xs | false ↦ filter (λ e. eqb (es .sender e) s) xs ])
-    go later true = ap (λ l. itemOf es x ∷ l) later
-    go later false = later
 
 -- ## A run whose last hall has no call left in its greatest view
 
@@ -116,14 +104,10 @@ settled-primary rules h ws done = go (eqb g 0) (isPrimary h g) done
     g : ℕ
     g = greatestView h
 
-    isSettled : Settling → Bool
-    isSettled (settled ws) = true
-    isSettled (refused n) = false
-
     go : (t u : Bool) → elim (t || not u) [ true ↦ refused 42 | false ↦ settleFrom rules maxTurns g h ] ≡ settled ws → u ≡ true
-    go true u e = absurd (false≢true (ap isSettled e))
+    go true u e = absurd (not-refused 42 ws e)
     go false true e = refl
-    go false false e = absurd (false≢true (ap isSettled e))
+    go false false e = absurd (not-refused 42 ws e)
 
 -- a view that keeps its members is primary or not as it was
 primary-run : (rules : Rules) → FairRules rules → (h : Hall) (ws : List Words) → Inv rules h → (g : ℕ)

@@ -67,7 +67,7 @@ isSettled : Settling → Bool
 isSettled (settled ws) = true
 isSettled (refused n) = false
 
-not-refused : (n : ℕ) (ws : List Words) → refused n ≡ settled ws → ⊥
+pub not-refused : (n : ℕ) (ws : List Words) → refused n ≡ settled ws → ⊥
 unfolding isSettled
 not-refused n ws e = false≢true (ap isSettled e)
 

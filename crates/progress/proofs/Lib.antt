@@ -19,3 +19,4 @@ pub mod Ends
 pub mod SafeExactly
 pub mod End
 pub mod Complete
+pub mod OnBytes

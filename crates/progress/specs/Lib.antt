@@ -1,1 +1,2 @@
 pub mod AnyTurn
+pub mod Promises

@@ -17,7 +17,6 @@ use Rattle.model.specs.Answers.{Plain}
 use Rattle.model.specs.Call.{Words, WordsIn, hl3}
 use Rattle.model.specs.Run.{run}
 use Rattle.model.specs.Settle.{greatestView, cannotSettle, Settling, settled, refused, callsTaken, plainSettle, maxTurns, settleFrom, settle}
-use Rattle.model.proofs.Settling.SettleRun.{settle-words}
 use Rattle.store.specs.Layout.{storedLength}
 use Rattle.store.specs.Valid.{ValidHall}
 use Rattle.store.specs.StoredForm.{stored, hallOf, isStored}
@@ -28,7 +27,8 @@ use Rattle.answer.specs.Meaning.{settledMeaning}
 use Rattle.calls.specs.Calls.{runOn, settlingOn, SettleOutcome, settleOn}
 use Rattle.calls.specs.Steps.{Settles}
 use Rattle.calls.proofs.RunLaw.{run-stored}
-use Rattle.progress.proofs.GreatestView.{greatest-last, greatest-number, formed-low}
+use Rattle.calls.proofs.SettleLaws.{settling-held, settling-broken, settle-hall-low}
+use Rattle.progress.proofs.GreatestView.{greatest-last, formed-low}
 use Rattle.hall.specs.declared.View.{View}
 use Rattle.hall.specs.Parts.{HasView, ViewIs, viewIn, inView}
 use Rattle.step.specs.Numbers.{bytesNumber}
@@ -69,15 +69,6 @@ pub some-view : (b : List ℕ) (count : ℕ) → count ≡ length (hallOf b .ser
 some-view b count e t z = true≢false (barred-none b count e z ∙ t)
 
 -- ## The settle of a slice, case by case
-
-module _ (b : List ℕ) where
-  pub settling-broken : isStored b ≡ false → settlingOn b ≡ refused 31
-  unfolding settlingOn
-  settling-broken s = ap (λ (t : Bool). elim t [ true ↦ settle hl3 (hallOf b) | false ↦ refused 31 ]) s
-
-  pub settling-held : isStored b ≡ true → settlingOn b ≡ settle hl3 (hallOf b)
-  unfolding settlingOn
-  settling-held s = ap (λ (t : Bool). elim t [ true ↦ settle hl3 (hallOf b) | false ↦ refused 31 ]) s
 
 by-barred : Hall → Bool → Settling
 by-barred h t = elim t [ true ↦ refused 42 | false ↦ settleFrom hl3 maxTurns (greatestView h) h ]
@@ -173,9 +164,6 @@ module _ (b : List ℕ) (s : isStored b ≡ true) (c : List ℕ) (is : c ≡ tak
       ap (λ (x : List ℕ). runOn x ws) (is ∙ sym (stored-hallOf b s) ∙ sym (append-nil (stored h)))
       ∙ run-stored h [] ws valid low .0 ∙ append-nil (stored (run hl3 h ws)) ∙ run-first ws low
 
-  low-words : WordsIn (callsTaken (settle hl3 h))
-  low-words = settle-words hl3 h (omega (arith, greatest-number h valid))
-
   -- turns on the copy are the settle's
   pub copy-settled : cannotSettle h ≡ false → (v : View) → InView c v → (x : Settled) (d : List ℕ) → TurnsTaken c v x d → SettledCopy b x d
   unfolding settleOn
@@ -186,7 +174,7 @@ module _ (b : List ℕ) (s : isStored b ≡ true) (c : List ℕ) (is : c ≡ tak
       record {
         answer = taken .answer ∙ ap plainSettle (same ∙ sym on);
         bytes = λ z.
-            taken .bytes z ∙ ap (λ (y : Settling). runOn c (callsTaken y)) same ∙ copy-run (callsTaken (settle hl3 h)) low-words
+            taken .bytes z ∙ ap (λ (y : Settling). runOn c (callsTaken y)) same ∙ copy-run (callsTaken (settle hl3 h)) (settle-hall-low h valid)
             ∙ ap (λ (y : Settling). take storedLength (runOn b (callsTaken y))) (sym on);
       }
 
@@ -196,7 +184,7 @@ module _ (b : List ℕ) (s : isStored b ≡ true) (c : List ℕ) (is : c ≡ tak
   copy-back =
       let ws = callsTaken (settle hl3 h) in
       let on = ap (λ (y : Settling). runOn b (callsTaken y)) (settling-held b s) in
-      ap (λ (x : List ℕ). take storedLength x ++ rest) on ∙ ap (λ (x : List ℕ). x ++ rest) (sym (run-first ws low-words)) ∙ sym (run-whole ws low-words) ∙ sym on
+      ap (λ (x : List ℕ). take storedLength x ++ rest) on ∙ ap (λ (x : List ℕ). x ++ rest) (sym (run-first ws (settle-hall-low h valid))) ∙ sym (run-whole ws (settle-hall-low h valid)) ∙ sym on
 
 -- ## The answer of the whole
 

@@ -2,9 +2,8 @@
 use Prim.Native.Nat.{ℕ, zero, suc, _+_, _-_, _^_, _≤_, _<_}
 use native.Mathlib.Omega.{arith}
 use mathlib.Core.Path.{_≡_, refl, sym, ap, ap₂, _∙_, subst}
-use mathlib.Core.Bool.{Bool, true, false, _||_}
+use mathlib.Core.Bool.{true}
 use mathlib.Core.List.{List, [], _∷_, _++_}
-use lib.Dec.{eqb}
 use lib.ListN.{length, length-append}
 use Rattle.quorum.specs.Sets.{members, mask}
 use Rattle.model.specs.Hall.{Hall}
@@ -14,6 +13,7 @@ use Rattle.model.specs.Call.{Words, hl3, step}
 use Rattle.model.specs.Settle as model
 use Rattle.model.specs.Settle.{greatestView, settleCall, settleCalls, takes, full, none, turnOf, Settling, settled, refused, andThen, callsTaken, plainSettle, maxTurns, settleFrom}
 use Rattle.model.proofs.Settling.TurnLaws.{Finds, finds, call-of}
+use Rattle.model.proofs.Settling.SettleRun.{call-low}
 use Rattle.model.proofs.Settling.ViewsKept.{SameViews, settle-views, same-greatest}
 use Rattle.store.specs.Valid.{ValidHall}
 use Rattle.store.specs.StoredForm.{hallOf, isStored}
@@ -30,15 +30,6 @@ use Rattle.hall.specs.declared.View.{View}
 use Rattle.hall.specs.Parts.{ViewIs}
 use Rattle.settling.specs.declared.Turn.{Turn}
 use Rattle.settling.specs.Turns.{found, InView, TurnsTaken}
-
--- TODO model
-call-low : (g k r : ℕ) → g < 2 ^ 32 → settleCall g k r .a < 2 ^ 32
-unfolding settleCall
-call-low g k r low = go (eqb k 6 || eqb k 7)
-  where
-    go : (t : Bool) → elim t [ true ↦ g | false ↦ 0 ] < 2 ^ 32
-    go true = low
-    go false = omega arith
 
 -- calls taken before what is left of a settle
 unfoldable pub before : List Words → Settling → Settling

@@ -56,9 +56,40 @@ settle-run rules h = go (cannotSettle h)
     go true = tt
     go false = from-runs rules maxTurns (greatestView h) h
 
+-- ## Its refusals
+
+-- a refusal has a number
+unfoldable pub Numbered : Settling → Type 0
+Numbered (settled ws) = Unit {0}
+Numbered (refused n) = n ≡ 0 → ⊥
+
+and-numbered : (w : Words) (x : Settling) → Numbered x → Numbered (andThen w x)
+unfolding Numbered andThen
+and-numbered w (settled ws) r = tt
+and-numbered w (refused n) r = r
+
+from-numbered : (rules : Rules) (n g : ℕ) (h : Hall) → Numbered (settleFrom rules n g h)
+unfolding Numbered settleFrom
+from-numbered rules zero g h = tt
+from-numbered rules (suc n) g h = go (λ h. from-numbered rules n g h) (turnOf rules h g)
+  where
+    go : ((h : Hall) → Numbered (settleFrom rules n g h)) → (t : Turn)
+        → Numbered (elim t [ takes w ↦ andThen w (settleFrom rules n g (step rules h w .hall)) | full ↦ refused 40 | none ↦ settled [] ])
+    go ih (takes w) = and-numbered w (settleFrom rules n g (step rules h w .hall)) (ih (step rules h w .hall))
+    go ih full = λ e. omega arith
+    go ih none = tt
+
+pub settle-numbered : (rules : Rules) (h : Hall) → Numbered (settle rules h)
+unfolding settle Numbered
+settle-numbered rules h = go (cannotSettle h)
+  where
+    go : (t : Bool) → Numbered (elim t [ true ↦ refused 42 | false ↦ settleFrom rules maxTurns (greatestView h) h ])
+    go true = λ e. omega arith
+    go false = from-numbered rules maxTurns (greatestView h) h
+
 -- ## Its words
 
-call-low : (g k r : ℕ) → g < 2 ^ 32 → settleCall g k r .a < 2 ^ 32
+pub call-low : (g k r : ℕ) → g < 2 ^ 32 → settleCall g k r .a < 2 ^ 32
 unfolding settleCall
 call-low g k r low = go (eqb k 6 || eqb k 7)
   where

@@ -20,11 +20,10 @@ slice-aggregate-put-bytes : tie.Need-slice-aggregate-put-bytes
 slice-aggregate-put-bytes c = search needs
 
 put-bytes-requires : tie.Need-put-bytes-requires
-put-bytes-requires c κs =
-    (
-      omega (arith, c .before .before .before .before .before .settle-copy .kept .1 .0),
-      settle-room (now (c .before .before .before .before .before .before .before .before .before .args .bytes)) _ (c .before .before .before .before .before .settle-copy .result) (c .before .before .enum-told .given .1) _ (c .before .before .before .before .before .settle-copy .ensures),
-    )
+put-bytes-requires c κs = (
+  omega (arith, c .before .before .before .before .before .settle-copy .kept .1 .0),
+  settle-room (now (c .before .before .before .before .before .before .before .before .before .args .bytes)) _ (c .before .before .before .before .before .settle-copy .result) (c .before .before .enum-told .given .1) _ (c .before .before .before .before .before .settle-copy .ensures),
+)
 
 enum-told-2 : tie.Need-enum-told-2
 enum-told-2 c = search needs
