@@ -1,14 +1,15 @@
-// The C interface (include/hall.h): open, step, page and run files, on numbers and slices. Each function returns 0 or
+// The C interface (include/hall.h): open, step, settle, page and run files, on numbers and slices. Each function returns 0 or
 // the number of the refusal. An answer is words in a lent slice.
 ghost use mathlib.Core.Path.{_≡_};
 ghost use mathlib.Core.List.{[], _∷_};
 ghost use Rattle.calls.specs.Calls.{openOn};
 ghost use Rattle.model.specs.Opening.{openingOf};
 ghost use Rattle.model.specs.Call.{wordsOf};
-ghost use Rattle.calls.specs.Lent.{stepLent, pageLent, Leaves};
+ghost use Rattle.calls.specs.Lent.{stepLent, pageLent, settleLent, Leaves};
 ghost use Rattle.calls.specs.RunsLent.{runReadLent, runActionLent, runWriteLent};
 ghost use Rattle.runfile.specs.Answers.{openingWith, runOf};
 use marshal::page_into;
+use marshal::settle_into;
 use marshal::step_into;
 use marshal_runs::run_action_into;
 use marshal_runs::run_read_into;
@@ -54,6 +55,15 @@ pub extern "C" fn hall_step(
         n (now (hall .exit)) (now (answer .exit)) ⌝ }
 {
     step_into(hall, k, r, a, b, answer)
+}
+
+// Settles the view with the greatest number (02, A5).
+#[no_mangle]
+pub extern "C" fn hall_settle(hall: &mut [u8], answer: &mut [u8]) -> u32
+    ensures { λ n. ⌜ Leaves (settleLent (now (hall .entry)) (now (answer .entry)))
+        n (now (hall .exit)) (now (answer .exit)) ⌝ }
+{
+    settle_into(hall, answer)
 }
 
 // The page of recorder r with a place of its order.

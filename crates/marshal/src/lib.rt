@@ -1,17 +1,21 @@
-// Calls on a hall that return their number and write their answer's values into a lent slice (`lent`): a page and a step.
+// Calls on a hall that return their number and write their answer's values into a lent slice (`lent`): a page, a step
+// and a settle.
 ghost use mathlib.Core.Path.{_≡_};
 ghost use Rattle.base.specs.Chains.{_⨾_};
 ghost use Rattle.model.specs.Answers as model;
 ghost use Rattle.model.specs.Call.{wordsOf};
-ghost use Rattle.calls.specs.Calls.{stepOn};
-ghost use Rattle.calls.specs.Lent.{stepLent, pageLent, Leaves};
+ghost use Rattle.calls.specs.Calls.{stepOn, settleOn};
+ghost use Rattle.calls.specs.Lent.{stepLent, pageLent, settleLent, Leaves};
 use answer::plain;
 use answer::plain_page;
+use answer::plain_settled;
 use lent::ANSWER;
 use lent::answer_into;
 use lent::put_values;
 use model::refusals;
 use page::page;
+use settling::settle;
+use settling::settle_refusal;
 use step::refusal;
 use step::step;
 
@@ -28,7 +32,7 @@ pub fn page_into(hall: &[u8], r: u32, k: u32, out: &mut [u8]) -> u32
     answer_into(out, &values)
 }
 
-// A step's number, or 18 where it is taken: there is no room for its answer.
+// A call's number, or 18 where it is taken: there is no room for its answer.
 fn or_no_room(number: u32) -> u32
     ensures { λ n. ⌜ n ≡ number ⨾ 18 ⌝ }
 {
@@ -51,6 +55,29 @@ pub fn step_into(hall: &mut [u8], k: u32, r: u32, a: u32, b: u32, out: &mut [u8]
         return try_step(hall, k, r, a, b);
     }
     let x = plain(step(hall, k, r, a, b));
+    if x.number != 0 {
+        return x.number;
+    }
+    let values = x.values;
+    put_values(out, &values);
+    0
+}
+
+// The number of a settle whose answer has no room: nothing is performed.
+fn try_settle(hall: &[u8]) -> u32
+    ensures { λ n. ⌜ n ≡ settleOn (now (hall .entry)) .answer .number ⨾ 18 ⌝ }
+{
+    or_no_room(settle_refusal(hall))
+}
+
+// A settle, its count written into a lent slice (02, A5).
+pub fn settle_into(hall: &mut [u8], out: &mut [u8]) -> u32
+    ensures { λ n. ⌜ Leaves (settleLent (now (hall .entry)) (now (out .entry))) n (now (hall .exit)) (now (out .exit)) ⌝ }
+{
+    if out.len() < ANSWER {
+        return try_settle(hall);
+    }
+    let x = plain_settled(settle(hall));
     if x.number != 0 {
         return x.number;
     }

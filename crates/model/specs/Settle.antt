@@ -9,7 +9,7 @@ use lib.Dec.{eqb}
 use lib.ListN.{length}
 use Rattle.base.specs.Lists.{greatest, has}
 use Rattle.model.specs.Hall.{Hall}
-use Rattle.model.specs.Answers.{Plain, plain}
+use Rattle.model.specs.Answers.{Plain, plain, accepted}
 use Rattle.model.specs.Refusals.{Rules, isPrimary}
 use Rattle.model.specs.Actions.{Outcome}
 use Rattle.model.specs.Call.{Words, wordsOf, step}
@@ -99,6 +99,11 @@ maxSteps = 2392
 unfoldable pub callsTaken : Settling → List Words
 callsTaken (settled ws) = ws
 callsTaken (refused n) = []
+
+-- each call of a run is accepted, in turn
+abbrev pub AllAccepted : Rules → Hall → List Words → Type 0
+AllAccepted rules h [] = Unit {0}
+AllAccepted rules h (w ∷ ws) = (accepted (step rules h w .answer) ≡ true) × AllAccepted rules (step rules h w .hall) ws
 
 -- "The count of accepted steps in the answer", or the refusal's number: "other answer fields 0"
 unfoldable pub plainSettle : Settling → Plain

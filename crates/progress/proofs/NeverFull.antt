@@ -180,5 +180,5 @@ module _ (rules : Rules) (fair : FairRules rules) (h : Hall) (x : Reached rules 
 
 -- "40 is never given in a hall reached from opening" (02, A14)
 pub never-full : (rules : Rules) → FairRules rules → (o : Opening) → openRefusal o ≡ 0 → (ws : List Words) → (w : Words)
-    → numberAt rules (run rules (opened o) ws) w ≡ 40 → ⊥
+    → plain (step rules (run rules (opened o) ws) w .answer) .number ≡ 40 → ⊥
 never-full rules fair o taken ws = never-40 rules fair (run rules (opened o) ws) (reached-from rules fair o taken ws)

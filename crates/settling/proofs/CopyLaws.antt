@@ -91,14 +91,25 @@ copy-refused b n ne is x e c =
     }
 
 -- 31
-pub copy-broken : (b : List ℕ) (n : ℕ) → n ≡ bytesNumber b → (n ≡ 0 → ⊥) → (x : Settled) → x ≡ Settled.Refused n → (c : List ℕ) → SettledCopy b x c
-copy-broken b n e ne x is c = by (isStored b) refl
+broken-is : (b : List ℕ) (n : ℕ) → n ≡ bytesNumber b → (n ≡ 0 → ⊥) → settlingOn b ≡ refused n
+broken-is b n e ne = by (isStored b) refl
   where
-    by : (t : Bool) → isStored b ≡ t → SettledCopy b x c
+    by : (t : Bool) → isStored b ≡ t → settlingOn b ≡ refused n
     by true t = absurd (ne (e ∙ sym (bytes-hall b t)))
-    by false t =
-        let n-is : n ≡ 31 = e ∙ sym (bytes-broken b t) in
-        copy-refused b n ne (settling-broken b t ∙ ap refused (sym n-is)) x is c
+    by false t = settling-broken b t ∙ ap refused (bytes-broken b t ∙ sym e)
+
+pub broken-number : (b : List ℕ) (n : ℕ) → n ≡ bytesNumber b → (n ≡ 0 → ⊥) → n ≡ settleOn b .answer .number
+unfolding settleOn plainSettle
+broken-number b n e ne = sym (ap (λ (x : Settling). plainSettle x .number) (broken-is b n e ne))
+
+pub settle-broken : (b : List ℕ) (n : ℕ) → n ≡ bytesNumber b → (n ≡ 0 → ⊥) → (x : Settled) → x ≡ Settled.Refused n → Settles b x b
+unfolding settleOn plainSettle settledMeaning callsTaken runOn
+settle-broken b n e ne x is =
+    let on = broken-is b n e ne in
+    record {
+      answer = ap settledMeaning is ∙ sym (ap plainSettle on);
+      bytes = sym (ap (λ (y : Settling). runOn b (callsTaken y)) on);
+    }
 
 -- 42
 pub copy-barred : (b : List ℕ) → isStored b ≡ true → cannotSettle (hallOf b) ≡ true → (x : Settled) → x ≡ Settled.Refused 42 → (c : List ℕ) → SettledCopy b x c
@@ -188,27 +199,12 @@ module _ (b : List ℕ) (s : isStored b ≡ true) (c : List ℕ) (is : c ≡ tak
 
 -- ## The answer of the whole
 
--- a settle that is taken was made on bytes that hold a hall
-settled-held : (b : List ℕ) → settleOn b .answer .number ≡ 0 → isStored b ≡ true
-unfolding settleOn plainSettle
-settled-held b z = by-cases (isStored b) (λ t. t) (λ t. let n : _≡_ {A = ℕ} 31 0 = sym (ap (λ (y : Settling). plainSettle y .number) (settling-broken b t)) ∙ z in absurd (omega arith))
-
-count-held : (b : List ℕ) (n : ℕ) (x : Settled) → x ≡ Settled.Count n → (c : List ℕ) → SettledCopy b x c → isStored b ≡ true
-unfolding settledMeaning
-count-held b n x e c copy =
-    settled-held b (sym (ap (λ (p : Plain). p .number) (copy .answer)) ∙ ap (λ (y : Settled). settledMeaning y .number) e)
-
--- so they have room for its copy
-pub settle-room : (b : List ℕ) (n : ℕ) (x : Settled) → x ≡ Settled.Count n → (c : List ℕ) → SettledCopy b x c → storedLength ≤ length b
-settle-room b n x e c copy = isStored-long b (count-held b n x e c copy)
-
 -- its copy is written back
-pub settle-taken : (b : List ℕ) (n : ℕ) (x : Settled) → x ≡ Settled.Count n → (c : List ℕ) → SettledCopy b x c → length c ≡ storedLength
+pub settle-taken : (b : List ℕ) → isStored b ≡ true → (n : ℕ) (x : Settled) → x ≡ Settled.Count n → (c : List ℕ) → SettledCopy b x c → length c ≡ storedLength
     → (d : List ℕ) → d ≡ sets b 0 (take storedLength c) → Settles b x d
 unfolding settledMeaning
-settle-taken b n x e c copy l d is =
+settle-taken b s n x e c copy l d is =
     let z : settledMeaning x .number ≡ 0 = ap (λ (y : Settled). settledMeaning y .number) e in
-    let s = count-held b n x e c copy in
     let whole : take storedLength c ≡ c = take-whole storedLength c l in
     record {
       answer = copy .answer;

@@ -201,32 +201,28 @@ fn settle_hall(bytes: &[u8], work: &mut [u8]) -> Settled
     take_turns(work, v)
 }
 
-// A settle of any bytes on a copy: 31, 42, 40.
-fn settle_copy(bytes: &[u8], work: &mut [u8]) -> Settled
-    requires { ⌜ length (now work) ≡ storedLength ⌝ }
-    ensures { λ x. ⌜ SettledCopy (now (bytes .entry)) x (now (work .exit)) ⌝ }
+// The number that `settle` would answer with, 0 for a settle that is taken: the bytes stay.
+pub fn settle_refusal(bytes: &[u8]) -> u32
+    ensures { λ n. ⌜ n ≡ settleOn (now (bytes .entry)) .answer .number ⌝ }
+{
+    let why = bytes_refusal(bytes);
+    if why != 0 {
+        return why;
+    }
+    let mut work = [0u8; HALL];
+    plain_settled(settle_hall(bytes, &mut work)).number
+}
+
+// Settles the hall in the bytes: 31, 42, 40, or the count of the steps taken.
+pub fn settle(bytes: &mut [u8]) -> Settled
+    ensures { λ x. ⌜ Settles (now (bytes .entry)) x (now (bytes .exit)) ⌝ }
 {
     let why = bytes_refusal(bytes);
     if why != 0 {
         return Settled::Refused(why);
     }
-    settle_hall(bytes, work)
-}
-
-// The number that `settle` would answer with, 0 for a settle that is taken: the bytes stay.
-pub fn settle_refusal(bytes: &[u8]) -> u32
-    ensures { λ n. ⌜ n ≡ settleOn (now (bytes .entry)) .answer .number ⌝ }
-{
     let mut work = [0u8; HALL];
-    plain_settled(settle_copy(bytes, &mut work)).number
-}
-
-// Settles the hall in the bytes.
-pub fn settle(bytes: &mut [u8]) -> Settled
-    ensures { λ x. ⌜ Settles (now (bytes .entry)) x (now (bytes .exit)) ⌝ }
-{
-    let mut work = [0u8; HALL];
-    let x = settle_copy(bytes, &mut work);
+    let x = settle_hall(bytes, &mut work);
     match x {
         Settled::Count(_) => {
             put_bytes(bytes, 0, &work, HALL);

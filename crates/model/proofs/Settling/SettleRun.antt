@@ -15,18 +15,13 @@ use Rattle.model.specs.Actions.{Outcome}
 use Rattle.model.specs.Opening.{Opening, openRefusal, opened}
 use Rattle.model.specs.Call.{Words, WordsIn, step}
 use Rattle.model.specs.Run.{run, history}
-use Rattle.model.specs.Settle.{greatestView, cannotSettle, Turn, takes, full, none, turnOf, settleCall, settleCalls, Settling, settled, refused, andThen, maxTurns, settleFrom, settle, callsTaken, Call, standsFor, callsOf, runCalls}
+use Rattle.model.specs.Settle.{greatestView, cannotSettle, Turn, takes, full, none, turnOf, settleCall, settleCalls, Settling, settled, refused, andThen, maxTurns, settleFrom, settle, callsTaken, AllAccepted, Call, standsFor, callsOf, runCalls}
 use Rattle.model.specs.Agreed.{FairRules, Agreed}
 use Rattle.model.proofs.Agreement.Theorem.{agreement}
 use Rattle.model.proofs.Settling.TurnLaws.{Finds, finds, call-of}
 
--- each call of a run is accepted
-abbrev pub AllAccepted : Rules → Hall → List Words → Type 0
-AllAccepted rules h [] = Unit {0}
-AllAccepted rules h (w ∷ ws) = (accepted (step rules h w .answer) ≡ true) × AllAccepted rules (step rules h w .hall) ws
-
 -- what a settle that gives x owes
-unfoldable pub Runs : Rules → Hall → Settling → Type 0
+unfoldable Runs : Rules → Hall → Settling → Type 0
 Runs rules h (settled ws) = AllAccepted rules h ws
 Runs rules h (refused n) = Unit {0}
 
@@ -47,14 +42,18 @@ from-runs rules (suc n) g h = go (λ h. from-runs rules n g h) (turnOf rules h g
     go ih full f = tt
     go ih none f = tt
 
--- every call that a settle stands for is accepted, in turn
-pub settle-run : (rules : Rules) (h : Hall) → Runs rules h (settle rules h)
+settle-runs : (rules : Rules) (h : Hall) → Runs rules h (settle rules h)
 unfolding settle Runs
-settle-run rules h = go (cannotSettle h)
+settle-runs rules h = go (cannotSettle h)
   where
     go : (t : Bool) → Runs rules h (elim t [ true ↦ refused 42 | false ↦ settleFrom rules maxTurns (greatestView h) h ])
     go true = tt
     go false = from-runs rules maxTurns (greatestView h) h
+
+-- every call that a settle stands for is accepted, in turn
+pub settle-run : (rules : Rules) (h : Hall) (ws : List Words) → settle rules h ≡ settled ws → AllAccepted rules h ws
+unfolding Runs
+settle-run rules h ws e = subst (Runs rules h) e (settle-runs rules h)
 
 -- ## Its refusals
 
