@@ -114,6 +114,20 @@ pub fn step_hall(
     Err(refusal::SHORT_SLICE)
 }
 
+/// What a settle does with a hall, or with bytes that are none, given whether
+/// there is room for the answer: the count of its steps, or the refusal, which
+/// leaves the hall as it is.
+pub fn settle_hall(hall: Option<&mut Hall>, room: bool) -> Result<[u32; WORDS], u32> {
+    let hall = hall.ok_or(refusal::STORED_FORM)?;
+    let mut settled = hall.clone();
+    let steps = settled.settle()?;
+    if !room {
+        return Err(refusal::SHORT_SLICE);
+    }
+    *hall = settled;
+    Ok(words([steps.len() as u32]))
+}
+
 /// What a page gives of a hall, or of bytes that are none, given whether there
 /// is room for it.
 pub fn page_of(hall: Option<&Hall>, r: u32, place: u32, room: bool) -> Result<[u32; WORDS], u32> {
@@ -137,6 +151,19 @@ fn try_step(bytes: &mut [u8], action: [u32; 4], answer: &mut [u8]) -> Result<(),
 /// Performs one action on the hall in a slice; 11, 31, then the others, 18 last.
 pub fn step(bytes: &mut [u8], action: [u32; 4], answer: &mut [u8]) -> u32 {
     number(try_step(bytes, action, answer))
+}
+
+fn try_settle(bytes: &mut [u8], answer: &mut [u8]) -> Result<(), u32> {
+    let mut hall = stored::read(bytes);
+    let words = settle_hall(hall.as_mut(), has_room(answer))?;
+    put_words(answer, words);
+    stored::write(&hall.expect("it was settled"), bytes);
+    Ok(())
+}
+
+/// Settles the hall in a slice; 31, 42, 40, 18.
+pub fn settle(bytes: &mut [u8], answer: &mut [u8]) -> u32 {
+    number(try_settle(bytes, answer))
 }
 
 fn try_page(bytes: &[u8], r: u32, place: u32, page: &mut [u8]) -> Result<(), u32> {

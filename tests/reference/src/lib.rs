@@ -10,10 +10,11 @@
 //! - `actions`: the eleven actions and their answers.
 //! - `exchange`: what a recorder builds from the summaries of a view.
 //! - `choice`: whose order it takes.
+//! - `settle`: settling the hall.
 //! - `page`: the page of a recorder.
 //! - `check`: whether all fields are in range.
 //! - `stored`: the stored form, read and written.
-//! - `calls`: open, step, page and run files on lent bytes.
+//! - `calls`: open, step, settle, page and run files on lent bytes.
 //! - `runfile` and `listing`: run files and the listing of a replay.
 //! - `refusal`: the numbers of the refusals.
 
@@ -29,6 +30,7 @@ pub mod listing;
 pub mod page;
 pub mod refusal;
 pub mod runfile;
+pub mod settle;
 pub mod stored;
 
 pub use actions::Answer;

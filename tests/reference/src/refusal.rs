@@ -40,3 +40,5 @@ pub const FULL: u32 = 40;
 /// A vote above 1,000, a vote other than 0 for a recorder above N, or a row
 /// whose votes are all 0.
 pub const VOTES: u32 = 41;
+/// The view with the greatest number is missing or not primary.
+pub const NOT_PRIMARY: u32 = 42;
