@@ -9,7 +9,7 @@ use lib.ListN.{length, take}
 use Rattle.store.specs.StoredForm.{isStored}
 use Rattle.calls.specs.Calls.{runOn}
 use Rattle.runfile.specs.Answers.{actionsOf}
-use Rattle.replaying.proofs.Steps.{step-holds}
+use Rattle.calls.proofs.HeldSteps.{step-holds}
 use Rattle.bench_api.proofs.Runs.{run-next}
 use Rattle.bench_api.proofs.run.Statement.{statement}
 use Rattle.bench_api.proofs.run.Tie as tie
