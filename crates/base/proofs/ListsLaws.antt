@@ -3,7 +3,7 @@
 use Prim.Native.Nat.{ℕ, zero, suc, _+_, _<_, _≤_}
 use native.Mathlib.Nat.{not-suc-le-zero, le-of-suc-le-suc}
 use native.Mathlib.Numerals.{add-one}
-use mathlib.Core.Path.{_≡_, refl, sym, ap, _∙_}
+use mathlib.Core.Path.{_≡_, refl, sym, ap, _∙_, subst}
 use mathlib.Core.Bool.{true, false, true≢false, false≢true, Bool, _&&_, _||_, and-false, and-eq-true-iff}
 use mathlib.Core.List.{List, [], _∷_, _++_}
 use lib.Dec.{eqb, ltb}
@@ -12,7 +12,7 @@ use lib.Seq.{drop-cons}
 use borrow.Author.Tests.{eqb-true, eq-eqb, ltb-true, lt-ltb}
 use native.Mathlib.Omega.{arith}
 use mathlib.Core.Logic.{⊎-elim, _↔_, _⊎_, inl, inr}
-use Rattle.base.specs.Lists.{has, filter, rising, bit, count, all, nth, rest, isEmpty}
+use Rattle.base.specs.Lists.{has, Each, filter, rising, bit, count, all, nth, rest, isEmpty}
 use Rattle.base.proofs.Bools.{by-cases, or-cases, and-both, or-left, or-right, and-true}
 
 -- ## What a list has
@@ -153,6 +153,24 @@ all-past p [] zero h = refl
 all-past p [] (suc i) h = refl
 all-past p (x ∷ xs) zero h = absurd (not-suc-le-zero h)
 all-past p (x ∷ xs) (suc i) h = all-past p xs i (le-of-suc-le-suc h)
+
+pub each-has : (P : ℕ → Type 0) (xs : List ℕ) → Each P xs → (x : ℕ) → has xs x ≡ true → P x
+each-has P [] p x m = absurd (has-none x m)
+each-has P (y ∷ ys) p x m = ⊎-elim (λ e. subst P (sym e) (p .0)) (each-has P ys (p .1) x) (has-cons y ys x m)
+
+-- two lists, one after the other
+module _ {A : Type 0} (P : A → Type 0) where
+  pub each-append : (xs ys : List A) → Each P xs → Each P ys → Each P (xs ++ ys)
+  each-append [] ys p q = q
+  each-append (x ∷ xs) ys p q = (p .0, each-append xs ys (p .1) q)
+
+  pub each-left : (xs ys : List A) → Each P (xs ++ ys) → Each P xs
+  each-left [] ys p = tt
+  each-left (x ∷ xs) ys p = (p .0, each-left xs ys (p .1))
+
+  pub each-right : (xs ys : List A) → Each P (xs ++ ys) → Each P ys
+  each-right [] ys p = p
+  each-right (x ∷ xs) ys p = each-right xs ys (p .1)
 
 -- ## Rising lists
 

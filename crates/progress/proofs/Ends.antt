@@ -8,17 +8,17 @@ use mathlib.Core.Bool.{Bool, true, false, false≢true}
 use mathlib.Core.List.{List, [], _∷_, _++_, head-eq-of-cons-eq, tail-eq-of-cons-eq}
 use lib.ListN.{length}
 use Rattle.base.specs.Lists.{has, Each}
-use Rattle.base.proofs.ListsLaws.{has-either}
+use Rattle.base.proofs.ListsLaws.{has-either, each-has, each-left}
 use Rattle.model.specs.Hall.{Hall}
 use Rattle.model.specs.Refusals.{Rules}
 use Rattle.model.specs.Call.{Words, step}
 use Rattle.model.specs.Run.{run}
 use Rattle.model.specs.Settle.{greatestView, cannotSettle, settleKinds, settleCall, callsUnder, settleCalls, isInView, Turn, takes, full, none, turnOf, Settling, settled, refused, andThen, maxTurns, settleFrom, settle, maxSteps, callsTaken}
-use Rattle.model.proofs.Settling.TurnLaws.{numberAt, Passed, Found, Finds, finds, under-call, call-under, each-left, call-of}
+use Rattle.model.proofs.Settling.TurnLaws.{numberAt, Passed, Found, Finds, finds, under-call, call-under, call-of}
 use Rattle.store.specs.Valid.{ValidHall}
 use Rattle.progress.proofs.AllEntered.{calls-append}
 use Rattle.progress.proofs.Measure.{reports}
-use Rattle.progress.proofs.SettleSteps.{each-has, Stands, workOf, firstKinds, lastKinds, Worked, first-works}
+use Rattle.progress.proofs.SettleSteps.{Stands, workOf, firstKinds, lastKinds, Worked, first-works}
 use Rattle.progress.proofs.Quiet.{Quiet, Reported, last-reports}
 use Rattle.progress.proofs.Bounds.{few, work-most, reports-most, work-least}
 

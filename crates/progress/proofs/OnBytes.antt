@@ -2,7 +2,7 @@
 -- Assumes nothing.
 use Prim.Native.Nat.{ℕ, _≤_}
 use native.Mathlib.Omega.{arith}
-use mathlib.Core.Path.{_≡_, refl, sym, ap, ap₂, _∙_, subst, subst₂}
+use mathlib.Core.Path.{_≡_, refl, sym, ap, _∙_, subst, subst₂}
 use mathlib.Core.Logic.{_⊎_, inl, inr}
 use mathlib.Core.Bool.{Bool, true, false}
 use mathlib.Core.List.{List, [], _∷_, _++_}
@@ -12,8 +12,8 @@ use Rattle.model.specs.Hall.{Hall}
 use Rattle.model.specs.Answers.{Plain}
 use Rattle.model.specs.Opening.{Opening, openRefusal, opened}
 use Rattle.model.specs.Call.{Words, WordsIn, hl3}
-use Rattle.model.specs.Run.{run, History, history}
-use Rattle.model.specs.Settle.{greatestView, cannotSettle, none, turnOf, Settling, settled, refused, callsTaken, plainSettle, maxTurns, settleFrom, settle, maxSteps, Complete}
+use Rattle.model.specs.Run.{run, History}
+use Rattle.model.specs.Settle.{greatestView, cannotSettle, turnOf, Settling, settled, refused, callsTaken, plainSettle, maxTurns, settleFrom, settle, maxSteps, Complete}
 use Rattle.model.proofs.Ordering.Representatives.{chosen-fair}
 use Rattle.model.proofs.Settling.SettleRun.{Numbered, settle-numbered}
 use Rattle.store.specs.Layout.{storedLength}

@@ -8,6 +8,7 @@ use mathlib.Core.Bool.{true}
 use mathlib.Core.List.{List}
 use Rattle.base.specs.Lists.{has}
 use Rattle.base.specs.Chains.{_⨾_}
+use Rattle.base.proofs.ListsLaws.{each-has}
 use Rattle.model.specs.Hall.{Hall}
 use Rattle.model.specs.Ordering.{completes, heardSummary, confirmed, reported}
 use Rattle.model.specs.Kinds.{Kind, label, sendEntry, sendSummary, enter, place, receive, notice, confirm, deliver, inputRefusal}
@@ -15,12 +16,12 @@ use Rattle.model.specs.Refusals.{Rules, isPrimary, summariesOf, notFormed, notM
 use Rattle.model.specs.Fields.{setConfirm, setReport, setRecorders}
 use Rattle.model.specs.Actions.{Outcome, doConfirm, doDeliver, perform, refusal}
 use Rattle.model.specs.Call.{wordsOf, step}
-use Rattle.model.specs.Settle.{settleCall, isInView}
+use Rattle.model.specs.Settle.{settleKinds, settleCall, isInView}
 use Rattle.model.proofs.Accepting.Performed.{numberOf}
 use Rattle.model.proofs.Settling.TurnLaws.{numberAt, Passed}
 use Rattle.progress.proofs.AllEntered.{number-is}
 use Rattle.progress.proofs.Measure.{reports}
-use Rattle.progress.proofs.SettleSteps.{each-has, Stands, firstKinds, lastKinds, step-is, state-none, stands-after, confirm-takes, deliver-takes}
+use Rattle.progress.proofs.SettleSteps.{Stands, firstKinds, lastKinds, step-is, state-none, stands-after, confirm-takes, deliver-takes}
 
 -- every call of the first group at a member is passed over
 abbrev pub Quiet : Rules → ℕ → List ℕ → Hall → Type 0
@@ -105,22 +106,22 @@ module _ (rules : Rules) (g : ℕ) (ms : List ℕ) (h : Hall) (s : Stands g ms h
     pub less : reports ms (h .recorders) ≡ reports ms (h′ .recorders) + 1
     pub quiet : Quiet rules g ms h → Quiet rules g ms h′
 
-  did : (κ : Kind) → (numberOf κ ≡ 5 → ⊥)
+  did : (κ : Kind) → has settleKinds (numberOf κ) ≡ true
       → (stateRefusal rules h κ r 0 ≡ 0 → reports ms (h .recorders) ≡ reports ms (perform rules h κ r 0 0 .hall .recorders) + 1)
       → (Quiet rules g ms h → Quiet rules g ms (perform rules h κ r 0 0 .hall))
       → numberAt rules h (wordsOf (numberOf κ) r 0 0) ≡ 0 → Reported (step rules h (wordsOf (numberOf κ) r 0 0) .hall)
-  did κ ne takes stays z =
+  did κ listed takes stays z =
       let e = step-is rules h κ r 0 z in
       record {
-        stands = stands-after rules h g ms κ r 0 ne (omega arith) s z;
+        stands = stands-after rules h g ms κ r 0 listed (omega arith) s z;
         less = takes (state-none rules h κ r 0 z) ∙ ap (λ (o : Outcome). reports ms (o .hall .recorders) + 1) (sym e);
         quiet = λ q. subst (λ (o : Outcome). Quiet rules g ms (o .hall)) (sym e) (stays q);
       }
 
   pub last-reports : (k : ℕ) → has lastKinds k ≡ true → numberAt rules h (settleCall g k r) ≡ 0 → Reported (step rules h (settleCall g k r) .hall)
-  unfolding lastKinds settleCall numberOf perform doConfirm doDeliver confirmed reported
+  unfolding lastKinds settleCall settleKinds has numberOf perform doConfirm doDeliver confirmed reported
   last-reports =
       each-has (λ k. numberAt rules h (settleCall g k r) ≡ 0 → Reported (step rules h (settleCall g k r) .hall)) lastKinds (
-        did confirm (λ e. omega arith) (confirm-takes rules g ms h s r member) (quiet-marked rules g ms h _ (h .recorders .report)),
-        (did deliver (λ e. omega arith) (deliver-takes rules g ms h s r member) (quiet-marked rules g ms h (h .recorders .confirm) _), tt),
+        did confirm refl (confirm-takes rules g ms h s r member) (quiet-marked rules g ms h _ (h .recorders .report)),
+        (did deliver refl (deliver-takes rules g ms h s r member) (quiet-marked rules g ms h (h .recorders .confirm) _), tt),
       )

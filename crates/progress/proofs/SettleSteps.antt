@@ -4,27 +4,28 @@
 use Prim.Native.Nat.{ℕ, _+_, _^_, _≤_, _<_}
 use native.Mathlib.Omega.{arith}
 use mathlib.Core.Path.{_≡_, refl, sym, ap, _∙_, subst}
-use mathlib.Core.Logic.{⊎-elim, inl}
+use mathlib.Core.Logic.{inl}
 use mathlib.Core.Bool.{true, false, not}
 use mathlib.Core.List.{List, [], _∷_}
 use lib.Dec.{eqb}
 use lib.ListN.{length}
 use borrow.Author.Tests.{eqb-true, eq-eqb, leb-true, leb-false, ltb-true, ltb-false, not-true, not-false}
 use Rattle.base.specs.Lists.{has, Each, rising, greatest}
-use Rattle.base.proofs.ListsLaws.{has-cons, has-none, head-rest}
+use Rattle.base.proofs.ListsLaws.{each-has, head-rest}
 use Rattle.base.proofs.Bools.{or-none}
 use Rattle.base.proofs.ChainsLaws.{not-refused, chain-none, link}
 use Rattle.model.specs.Hall.{maxPending, maxQueue, Message, Message.entry, Message.summary, Service, Hall}
-use Rattle.model.specs.Service.{newview, gpsnd, vsOrder, gprcv, safe, hasPending, canReceive, hasUnsafe, aboveCurrent}
-use Rattle.model.specs.Kinds.{Kind, submit, label, sendEntry, sendSummary, form, enter, place, receive, notice, confirm, deliver}
+use Rattle.model.specs.Service.{hasPending, canReceive, hasUnsafe, aboveCurrent}
+use Rattle.model.specs.Kinds.{Kind, label, sendEntry, sendSummary, enter, place, receive, notice, confirm, deliver}
 use Rattle.model.specs.Refusals.{Rules, notFormed, notMember, notAboveCurrent, noView, nonePending, noneToReceive, noneToNotice, orderEnds, pendingFull, queueFull, summaryPlaceFull, bufferHead, stateRefusal}
-use Rattle.model.specs.Actions.{Outcome, doSubmit, doLabel, doSendEntry, doSendSummary, doEnter, doPlace, doReceive, doNotice, doConfirm, doDeliver, perform, refusal, act}
+use Rattle.model.specs.Actions.{Outcome, doLabel, doSendEntry, doSendSummary, doEnter, doPlace, doReceive, doNotice, doConfirm, doDeliver, perform, refusal, act}
 use Rattle.model.specs.Call.{wordsOf, step}
-use Rattle.model.specs.Settle.{greatestView, settleCall, isInView}
+use Rattle.model.specs.Settle.{greatestView, settleKinds, settleCall, isInView}
 use Rattle.model.proofs.Accepting.Room.{isFull}
 use Rattle.model.proofs.Accepting.Performed.{numberOf, kind-of-number, can-label, can-deliver, not-full}
 use Rattle.model.proofs.Ordering.Waiting.{first-waiting}
 use Rattle.model.proofs.Settling.TurnLaws.{numberAt}
+use Rattle.model.proofs.Settling.ViewsKept.{SameViews, same-greatest, performed-views}
 use Rattle.store.specs.Valid.{ValidHall}
 use Rattle.store.proofs.KeepFacts.{Facts}
 use Rattle.store.proofs.KeepRules.{facts-of}
@@ -32,11 +33,6 @@ use Rattle.store.proofs.KeepValid.{step-valid}
 use Rattle.progress.proofs.GreatestView.{greatest-number, members-rise}
 use Rattle.progress.proofs.AllEntered.{number-is}
 use Rattle.progress.proofs.Measure.{work, reports, enter-work, send-work, receive-work, notice-work, place-work, label-work, confirm-reports, deliver-reports}
-
--- what each element has
-pub each-has : (P : ℕ → Type 0) (xs : List ℕ) → Each P xs → (x : ℕ) → has xs x ≡ true → P x
-each-has P [] p x m = absurd (has-none x m)
-each-has P (y ∷ ys) p x m = ⊎-elim (λ e. subst P (sym e) (p .0)) (each-has P ys (p .1) x) (has-cons y ys x m)
 
 -- a hall in range whose greatest view is g, with members ms
 pub record Stands (g : ℕ) (ms : List ℕ) (h : Hall) : Type 0 where
@@ -68,33 +64,16 @@ module _ (rules : Rules) (h : Hall) where
   unfolding refusal
   state-none κ r a z = chain-none _ _ (sym (number-is rules h κ r a 0) ∙ z) .1
 
-  -- no kind but 5 forms a view
-  views-kept : (κ : Kind) (r a : ℕ) → (numberOf κ ≡ 5 → ⊥)
-      → (perform rules h κ r a 0 .hall .service .created ≡ h .service .created) × (perform rules h κ r a 0 .hall .service .members ≡ h .service .members)
-  unfolding numberOf perform doSubmit doLabel doSendEntry doSendSummary doEnter doPlace doReceive doNotice doConfirm doDeliver newview gpsnd vsOrder gprcv safe
-  views-kept submit r a ne = (refl, refl)
-  views-kept label r a ne = (refl, refl)
-  views-kept sendEntry r a ne = (refl, refl)
-  views-kept sendSummary r a ne = (refl, refl)
-  views-kept form r a ne = absurd (ne refl)
-  views-kept enter r a ne = (refl, refl)
-  views-kept place r a ne = (refl, refl)
-  views-kept receive r a ne = (refl, refl)
-  views-kept notice r a ne = (refl, refl)
-  views-kept confirm r a ne = (refl, refl)
-  views-kept deliver r a ne = (refl, refl)
-
   -- so the hall still stands
-  pub stands-after : (g : ℕ) (ms : List ℕ) (κ : Kind) (r a : ℕ) → (numberOf κ ≡ 5 → ⊥) → a < 2 ^ 32 → Stands g ms h
+  pub stands-after : (g : ℕ) (ms : List ℕ) (κ : Kind) (r a : ℕ) → has settleKinds (numberOf κ) ≡ true → a < 2 ^ 32 → Stands g ms h
       → numberAt rules h (wordsOf (numberOf κ) r a 0) ≡ 0 → Stands g ms (step rules h (wordsOf (numberOf κ) r a 0) .hall)
-  unfolding greatestView
-  stands-after g ms κ r a ne low s z =
-      let e = step-is κ r a z in
-      let kept = views-kept κ r a ne in
+  stands-after g ms κ r a listed low s z =
+      let w = wordsOf (numberOf κ) r a 0 in
+      let same = subst (λ (o : Outcome). SameViews h (o .hall)) (sym (step-is κ r a z)) (performed-views rules h κ r a 0 listed) in
       record {
-        valid = step-valid rules h (wordsOf (numberOf κ) r a 0) low (s .valid);
-        view = ap (λ (o : Outcome). greatest (λ g. g) (o .hall .service .created)) e ∙ ap (greatest (λ g. g)) (kept .0) ∙ s .view;
-        set = ap (λ (o : Outcome). o .hall .service .members g) e ∙ ap (λ (f : ℕ → List ℕ). f g) (kept .1) ∙ s .set;
+        valid = step-valid rules h w low (s .valid);
+        view = same-greatest h (step rules h w .hall) same ∙ s .view;
+        set = ap (λ (f : ℕ → List ℕ). f g) (same .members) ∙ s .set;
       }
 
 -- ## What each kind takes
@@ -197,32 +176,32 @@ module _ (rules : Rules) (g : ℕ) (ms : List ℕ) (h : Hall) (s : Stands g ms h
   view-low : g < 2 ^ 32
   view-low = omega (arith, greatest-number h (s .valid), s .view)
 
-  worked : (κ : Kind) (a : ℕ) → (numberOf κ ≡ 5 → ⊥) → a < 2 ^ 32 → (stateRefusal rules h κ r a ≡ 0 → Takes κ a)
+  worked : (κ : Kind) (a : ℕ) → has settleKinds (numberOf κ) ≡ true → a < 2 ^ 32 → (stateRefusal rules h κ r a ≡ 0 → Takes κ a)
       → numberAt rules h (wordsOf (numberOf κ) r a 0) ≡ 0 → Worked (step rules h (wordsOf (numberOf κ) r a 0) .hall)
-  worked κ a ne low takes z =
+  worked κ a listed low takes z =
       record {
-        stands = stands-after rules h g ms κ r a ne low s z;
+        stands = stands-after rules h g ms κ r a listed low s z;
         less = takes (state-none rules h κ r a z) ∙ ap (λ (o : Outcome). workOf g ms (o .hall) + 1) (sym (step-is rules h κ r a z));
       }
 
   pub first-works : (k : ℕ) → has firstKinds k ≡ true → isInView h g (settleCall g k r) ≡ true → numberAt rules h (settleCall g k r) ≡ 0
       → Worked (step rules h (settleCall g k r) .hall)
-  unfolding firstKinds isInView settleCall numberOf
+  unfolding firstKinds isInView settleCall settleKinds has numberOf
   first-works =
       each-has (λ k. isInView h g (settleCall g k r) ≡ true → numberAt rules h (settleCall g k r) ≡ 0 → Worked (step rules h (settleCall g k r) .hall))
       firstKinds (
-        λ i. worked enter g (λ e. omega arith) view-low enter-takes,
+        λ i. worked enter g refl view-low enter-takes,
         (
-          λ i. worked sendSummary 0 (λ e. omega arith) (omega arith) (summary-takes (eqb-true _ _ i)),
+          λ i. worked sendSummary 0 refl (omega arith) (summary-takes (eqb-true _ _ i)),
           (
-            λ i. worked sendEntry 0 (λ e. omega arith) (omega arith) (entry-takes (eqb-true _ _ i)),
+            λ i. worked sendEntry 0 refl (omega arith) (entry-takes (eqb-true _ _ i)),
             (
-              λ i. worked label 0 (λ e. omega arith) (omega arith) label-takes,
+              λ i. worked label 0 refl (omega arith) label-takes,
               (
-                λ i. worked place g (λ e. omega arith) view-low place-takes,
+                λ i. worked place g refl view-low place-takes,
                 (
-                  λ i. worked receive 0 (λ e. omega arith) (omega arith) (receive-takes (eqb-true _ _ i)),
-                  (λ i. worked notice 0 (λ e. omega arith) (omega arith) (notice-takes (eqb-true _ _ i)), tt),
+                  λ i. worked receive 0 refl (omega arith) (receive-takes (eqb-true _ _ i)),
+                  (λ i. worked notice 0 refl (omega arith) (notice-takes (eqb-true _ _ i)), tt),
                 ),
               ),
             ),

@@ -1,5 +1,5 @@
 -- The greatest view is the last formed one; a settle on a copy, and the copy written back. Assumes nothing.
-use Prim.Native.Nat.{ℕ, _+_, _-_, _≤_, _<_}
+use Prim.Native.Nat.{ℕ, _+_, _-_, _≤_}
 use native.Mathlib.Omega.{arith}
 use mathlib.Core.Path.{_≡_, refl, sym, ap, ap₂, _∙_, subst}
 use mathlib.Core.Bool.{Bool, true, false, not, _||_, true≢false}
@@ -7,9 +7,8 @@ use mathlib.Core.List.{List, [], _∷_, _++_, append-nil}
 use lib.Dec.{eqb}
 use lib.ListN.{length, getD, take, drop}
 use lib.Seq.{sets, sets-eq, length-take-le, take-at, drop-length}
-use borrow.Author.Tests.{eq-eqb, ne-eqb}
+use borrow.Author.Tests.{ne-eqb}
 use Rattle.base.specs.Lists.{greatest, has}
-use Rattle.base.proofs.Bools.{by-cases}
 use Rattle.base.proofs.ListsLaws.{key-has}
 use Rattle.model.specs.Hall.{Hall}
 use Rattle.model.specs.Refusals.{isPrimary}
@@ -32,7 +31,7 @@ use Rattle.progress.proofs.GreatestView.{greatest-last, formed-low}
 use Rattle.hall.specs.declared.View.{View}
 use Rattle.hall.specs.Parts.{HasView, ViewIs, viewIn, inView}
 use Rattle.step.specs.Numbers.{bytesNumber}
-use Rattle.step.proofs.StepsLaws.{bytes-hold, bytes-hall, bytes-broken}
+use Rattle.step.proofs.StepsLaws.{bytes-hall, bytes-broken}
 use Rattle.settling.specs.Turns.{InView, TurnsTaken, SettledCopy}
 
 -- ## 42
@@ -65,8 +64,11 @@ barred-last b count s e ne p i =
     ∙ sym (ap (λ (t : Bool). t || not (isPrimary h (greatestView h))) (ne-eqb (greatestView h) 0 (λ z. omega (arith, low, last))))
 
 -- a hall that is not barred has a view
-pub some-view : (b : List ℕ) (count : ℕ) → count ≡ length (hallOf b .service .created) → cannotSettle (hallOf b) ≡ false → count ≡ 0 → ⊥
+some-view : (b : List ℕ) (count : ℕ) → count ≡ length (hallOf b .service .created) → cannotSettle (hallOf b) ≡ false → count ≡ 0 → ⊥
 some-view b count e t z = true≢false (barred-none b count e z ∙ t)
+
+pub view-there : (b : List ℕ) (count : ℕ) → count ≡ length (hallOf b .service .created) → cannotSettle (hallOf b) ≡ false → 1 ≤ count
+view-there b count e t = omega (arith, some-view b count e t)
 
 -- ## The settle of a slice, case by case
 
@@ -142,16 +144,9 @@ module _ (b : List ℕ) (s : isStored b ≡ true) (c : List ℕ) (is : c ≡ tak
   pub copy-hall : hallOf c ≡ hallOf b
   copy-hall = ap hallOf is ∙ hallOf-first b
 
-  -- the view at the last index is the copy's greatest
-  module _ (count : ℕ) (many : count ≡ length (hallOf b .service .created)) where
-    copy-many : count ≡ length (hallOf c .service .created)
-    copy-many = many ∙ sym (ap (λ (h : Hall). length (h .service .created)) copy-hall)
-
-    pub copy-has : (count ≡ 0 → ⊥) → HasView c (count - 1)
-    copy-has ne = record { holds = copy-holds; within = omega (arith, copy-many) }
-
-    pub copy-view : (v : View) → ViewIs (hallOf c) (viewIn c (count - 1)) v → InView c v
-    copy-view v i = record { holds = copy-holds; view = subst (λ g. ViewIs (hallOf c) g v) (last-view c count copy-holds copy-many) i }
+  -- its view with the greatest number is b's
+  pub copy-view : (v : View) → ViewIs (hallOf b) (greatestView (hallOf b)) v → InView c v
+  copy-view v i = record { holds = copy-holds; view = subst (λ (x : Hall). ViewIs x (greatestView x) v) (sym copy-hall) i }
 
   abbrev h : Hall
   h = hallOf b

@@ -1,18 +1,15 @@
 -- The loops of a turn: over the recorders of one kind, and over the kinds. Assumes nothing.
-use Prim.Native.Nat.{ℕ, zero, suc, _+_, _-_, _≤_, _<_}
+use Prim.Native.Nat.{ℕ, suc, _+_, _-_, _≤_, _<_}
 use native.Mathlib.Omega.{arith}
-use mathlib.Core.Path.{_≡_, refl, sym, ap, ap₂, _∙_, subst}
-use mathlib.Core.Logic.{⊎-elim}
+use mathlib.Core.Path.{_≡_, refl, sym, ap, _∙_}
 use mathlib.Core.Bool.{Bool, true, false, _||_, true≢false}
 use mathlib.Core.List.{List, [], _∷_, _++_, map}
 use lib.Dec.{eqb}
-use lib.ListN.{length, getD, drop}
+use lib.ListN.{getD, drop}
 use lib.Seq.{drop-cons}
-use borrow.Author.Tests.{eqb-true}
 use Rattle.base.specs.Lists.{filter}
-use Rattle.base.specs.Numbers.{upTo, numbers}
-use Rattle.base.proofs.Bools.{or-none, or-cases}
-use Rattle.base.proofs.ListsLaws.{filter-in, filter-out}
+use Rattle.base.specs.Numbers.{numbers}
+use Rattle.base.proofs.Bools.{or-none}
 use Rattle.base.proofs.NumbersLaws.{upTo-numbers}
 use Rattle.quorum.specs.Sets.{inMask, members}
 use Rattle.model.specs.Hall.{Hall}

@@ -9,13 +9,13 @@ ghost use lib.ListN.{length};
 ghost use Rattle.quorum.specs.Sets.{members};
 ghost use Rattle.model.specs.Hall.{maxRecorders};
 ghost use Rattle.model.specs.Call.{hl3};
-ghost use Rattle.model.specs.Settle.{cannotSettle, settleCall, settleCalls};
+ghost use Rattle.model.specs.Settle.{greatestView, cannotSettle, settleCall, settleCalls};
 ghost use Rattle.store.specs.Layout.{storedLength};
 ghost use Rattle.store.specs.StoredForm.{hallOf, isStored};
-ghost use Rattle.answer.specs.Meaning.{settledMeaning};
 ghost use Rattle.calls.specs.Calls.{stepOn, settleOn};
 ghost use Rattle.calls.specs.Steps.{Settles};
 ghost use Rattle.progress.specs.AnyTurn.{anyTurn};
+ghost use Rattle.hall.specs.Parts.{ViewIs};
 ghost use Rattle.settling.specs.Turns.{found, isFound, memberNumber, TurnAt, InView, TurnsTaken, SettledCopy};
 use answer::Settled;
 use answer::plain_settled;
@@ -176,7 +176,7 @@ fn take_turns(work: &mut [u8], v: View) -> Settled
     Settled::Count(count)
 }
 
-// The view with the greatest number, the last formed one, is missing or not primary.
+// The view with the greatest number is missing or not primary.
 fn is_barred(b: &[u8], count: usize) -> bool
     requires { ⌜ (isStored (now b) ≡ true) × (count ≡ length (hallOf (now b) .service .created)) ⌝ }
     ensures { λ t. ⌜ t ≡ cannotSettle (hallOf (now (b .entry))) ⌝ }
@@ -185,6 +185,14 @@ fn is_barred(b: &[u8], count: usize) -> bool
         return true;
     }
     !in_primary(b, count - 1)
+}
+
+// The view with the greatest number: numbers rise, so it is the last formed one.
+fn greatest_view(b: &[u8], count: usize) -> View
+    requires { ⌜ (isStored (now b) ≡ true) × (1 ≤ count) × (count ≡ length (hallOf (now b) .service .created)) ⌝ }
+    ensures { λ v. ⌜ ViewIs (hallOf (now (b .entry))) (greatestView (hallOf (now (b .entry)))) v ⌝ }
+{
+    read_view(b, count - 1)
 }
 
 // A settle of a hall on a copy of it: 42, 40.
@@ -196,8 +204,8 @@ fn settle_hall(bytes: &[u8], work: &mut [u8]) -> Settled
     if is_barred(bytes, count) {
         return Settled::Refused(refusals::NOT_PRIMARY);
     }
+    let v = greatest_view(bytes, count);
     put_bytes(work, 0, bytes, HALL);
-    let v = read_view(work, count - 1);
     take_turns(work, v)
 }
 

@@ -5,7 +5,6 @@ use mathlib.Core.Path.{sym, ap, _∙_}
 use native.Mathlib.Omega.{arith}
 use borrow.Author.Needs.{needs}
 use Rattle.model.specs.Answers.{Plain}
-use Rattle.answer.specs.Meaning.{settledMeaning}
 use Rattle.calls.specs.Lent.{withAnswer, settleLent}
 use Rattle.calls.specs.Calls.{SettleOutcome, settleOn}
 use Rattle.calls.proofs.Refused.{refused-keeps, lent-refused, lent-tried, lent-done}

@@ -3,13 +3,13 @@
 -- Assumes nothing.
 use Prim.Native.Nat.{ℕ, zero, suc, _^_, _<_}
 use native.Mathlib.Omega.{arith}
-use mathlib.Core.Path.{_≡_, refl, sym, ap, _∙_, subst}
+use mathlib.Core.Path.{_≡_, refl, sym, _∙_, subst}
 use mathlib.Core.Bool.{Bool, true, false, _||_}
 use mathlib.Core.List.{List, [], _∷_, _++_}
 use lib.Dec.{eqb}
 use borrow.Author.Tests.{eq-eqb}
 use Rattle.model.specs.Hall.{Hall}
-use Rattle.model.specs.Answers.{Answer, plain, accepted}
+use Rattle.model.specs.Answers.{Answer, accepted}
 use Rattle.model.specs.Refusals.{Rules}
 use Rattle.model.specs.Actions.{Outcome}
 use Rattle.model.specs.Opening.{Opening, openRefusal, opened}

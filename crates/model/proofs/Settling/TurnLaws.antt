@@ -2,19 +2,19 @@
 -- Assumes nothing.
 use Prim.Native.Nat.{ℕ}
 use mathlib.Core.Path.{_≡_, refl, sym, ap, _∙_, subst}
-use mathlib.Core.Logic.{_⊎_, inl, inr, ⊎-elim}
+use mathlib.Core.Logic.{⊎-elim}
 use mathlib.Core.Bool.{Bool, true, false, true≢false}
 use mathlib.Core.List.{List, [], _∷_, _++_, map}
 use lib.Dec.{eqb}
 use borrow.Author.Tests.{eqb-true, eqb-false}
 use Rattle.base.specs.Lists.{has, Each}
-use Rattle.base.proofs.ListsLaws.{has-cons, has-none, has-head, has-later}
+use Rattle.base.proofs.ListsLaws.{has-cons, has-none, has-head, has-later, each-append, each-left, each-right}
 use Rattle.model.specs.Hall.{Hall}
 use Rattle.model.specs.Answers.{plain, accepted}
 use Rattle.model.specs.Refusals.{Rules}
 use Rattle.model.specs.Actions.{Outcome}
 use Rattle.model.specs.Call.{Words, step}
-use Rattle.model.specs.Settle.{settleKinds, settleCall, callsUnder, settleCalls, isInView, Turn, takes, full, none, tried, turn, turnOf}
+use Rattle.model.specs.Settle.{settleKinds, settleCall, callsUnder, settleCalls, isInView, Turn, takes, full, none, tried, turn}
 
 -- the number that a call is answered with, 0 for one that is accepted
 abbrev pub numberAt : Rules → Hall → Words → ℕ
@@ -87,18 +87,6 @@ finds rules h g (w ∷ calls) = go (finds rules h g calls) (isInView h g w) refl
 
 -- P of each call under these kinds
 module _ (P : Words → Type 0) where
-  each-append : (xs ys : List Words) → Each P xs → Each P ys → Each P (xs ++ ys)
-  each-append [] ys p q = q
-  each-append (x ∷ xs) ys p q = (p .0, each-append xs ys (p .1) q)
-
-  pub each-left : (xs ys : List Words) → Each P (xs ++ ys) → Each P xs
-  each-left [] ys p = tt
-  each-left (x ∷ xs) ys p = (p .0, each-left xs ys (p .1))
-
-  pub each-right : (xs ys : List Words) → Each P (xs ++ ys) → Each P ys
-  each-right [] ys p = p
-  each-right (x ∷ xs) ys p = each-right xs ys (p .1)
-
   each-member : (g k : ℕ) (ms : List ℕ) (r : ℕ) → Each P (map (settleCall g k) ms) → has ms r ≡ true → P (settleCall g k r)
   each-member g k [] r p m = absurd (has-none r m)
   each-member g k (x ∷ ms) r p m =
@@ -114,8 +102,8 @@ module _ (P : Words → Type 0) where
   under-call g ms [] k r p i m = absurd (has-none k i)
   under-call g ms (x ∷ ks) k r p i m =
       ⊎-elim
-      (λ e. subst (λ k. P (settleCall g k r)) (sym e) (each-member g x ms r (each-left (map (settleCall g x) ms) (callsUnder g ms ks) p) m))
-      (λ i′. under-call g ms ks k r (each-right (map (settleCall g x) ms) (callsUnder g ms ks) p) i′ m)
+      (λ e. subst (λ k. P (settleCall g k r)) (sym e) (each-member g x ms r (each-left P (map (settleCall g x) ms) (callsUnder g ms ks) p) m))
+      (λ i′. under-call g ms ks k r (each-right P (map (settleCall g x) ms) (callsUnder g ms ks) p) i′ m)
       (has-cons x ks k i)
 
   pub call-under : (g : ℕ) (ms ks : List ℕ) → ((k r : ℕ) → has ks k ≡ true → has ms r ≡ true → P (settleCall g k r))
@@ -123,7 +111,7 @@ module _ (P : Words → Type 0) where
   unfolding callsUnder
   call-under g ms [] p = tt
   call-under g ms (x ∷ ks) p =
-      each-append (map (settleCall g x) ms) (callsUnder g ms ks) (member-each g x ms (λ r m. p x r (has-head x ks) m))
+      each-append P (map (settleCall g x) ms) (callsUnder g ms ks) (member-each g x ms (λ r m. p x r (has-head x ks) m))
       (call-under g ms ks (λ k r i m. p k r (has-later x ks k i) m))
 
 -- a call found in the list: its kind and recorder

@@ -1,10 +1,10 @@
 -- No call of a settle forms a view: the formed views and their members stay, and so does the greatest view.
 -- Assumes nothing.
 use Prim.Native.Nat.{ℕ}
-use mathlib.Core.Path.{_≡_, refl, sym, ap, _∙_, subst}
+use mathlib.Core.Path.{_≡_, refl, sym, _∙_, subst}
 use mathlib.Core.Logic.{⊎-elim}
 use mathlib.Core.Bool.{Bool, true, false, false≢true}
-use mathlib.Core.List.{List, [], _∷_}
+use mathlib.Core.List.{List}
 use Rattle.base.specs.Lists.{has}
 use Rattle.model.specs.Hall.{Service, Hall}
 use Rattle.model.specs.Service.{newview, gpsnd, vsOrder, gprcv, safe}
@@ -12,8 +12,7 @@ use Rattle.model.specs.Refusals.{Rules}
 use Rattle.model.specs.Kinds.{Kind, submit, label, sendEntry, sendSummary, form, enter, place, receive, notice, confirm, deliver}
 use Rattle.model.specs.Actions.{Outcome, doSubmit, doLabel, doSendEntry, doSendSummary, doForm, doEnter, doPlace, doReceive, doNotice, doConfirm, doDeliver, perform}
 use Rattle.model.specs.Call.{Words, step}
-use Rattle.model.specs.Run.{run}
-use Rattle.model.specs.Settle.{greatestView, settleKinds, settleCall, cannotSettle}
+use Rattle.model.specs.Settle.{greatestView, settleKinds, settleCall}
 use Rattle.model.proofs.Accepting.Performed.{numberOf}
 use Rattle.model.proofs.Accepting.Accepted.{performed-or-refused}
 
@@ -30,7 +29,7 @@ pub same-greatest : (h h′ : Hall) → SameViews h h′ → greatestView h′ �
 unfolding greatestView
 same-greatest h h′ s = rw (s .created)
 
-performed-views : (rules : Rules) (h : Hall) (κ : Kind) (r a b : ℕ) → has settleKinds (numberOf κ) ≡ true → SameViews h (perform rules h κ r a b .hall)
+pub performed-views : (rules : Rules) (h : Hall) (κ : Kind) (r a b : ℕ) → has settleKinds (numberOf κ) ≡ true → SameViews h (perform rules h κ r a b .hall)
 unfolding perform doSubmit doLabel doSendEntry doSendSummary doForm doEnter doPlace doReceive doNotice doConfirm doDeliver newview gpsnd vsOrder gprcv safe has settleKinds numberOf
 performed-views rules h submit r a b t = record { created = refl; members = refl }
 performed-views rules h label r a b t = record { created = refl; members = refl }

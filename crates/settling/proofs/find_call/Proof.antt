@@ -1,9 +1,8 @@
 -- The invariant: the calls at the members passed so far give nothing. Assumes nothing.
 use borrow.Author.Needs.{needs}
 use denote.Ref.{now}
-use native.Mathlib.Omega.{arith}
 use Prim.Native.Nat.{_-_, _≤_}
-use mathlib.Core.Path.{_≡_, refl, sym, ap, _∙_}
+use mathlib.Core.Path.{_≡_, sym, ap, _∙_}
 use mathlib.Core.List.{map}
 use Rattle.quorum.specs.Sets.{members}
 use Rattle.model.specs.Call.{hl3}

@@ -1,8 +1,6 @@
 -- The greatest view is the last formed one. Assumes nothing.
 use borrow.Author.Needs.{needs}
 use denote.Ref.{now}
-use mathlib.Core.Path.{_≡_, refl, sym, ap, _∙_}
-use Rattle.store.specs.StoredForm.{hallOf}
 use Rattle.settling.proofs.CopyLaws.{barred-none, barred-last}
 use Rattle.settling.proofs.is_barred.Statement.{statement}
 use Rattle.settling.proofs.is_barred.Tie as tie

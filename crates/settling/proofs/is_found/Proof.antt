@@ -1,6 +1,6 @@
 -- By cases. Assumes nothing.
 use borrow.Author.Needs.{needs}
-use mathlib.Core.Path.{_≡_, refl}
+use mathlib.Core.Path.{refl}
 use Rattle.settling.specs.Turns.{isFound}
 use Rattle.settling.proofs.is_found.Statement.{statement}
 use Rattle.settling.proofs.is_found.Tie as tie

@@ -2,7 +2,7 @@
 use borrow.Author.Needs.{needs}
 use denote.Ref.{now}
 use native.Mathlib.Omega.{arith}
-use mathlib.Core.Path.{_≡_, refl, sym, ap, _∙_}
+use mathlib.Core.Path.{refl, sym, _∙_}
 use Rattle.store.proofs.StoredFormLaws.{isStored-long}
 use Rattle.step.proofs.StepsLaws.{bytes-hold}
 use Rattle.settling.proofs.CopyLaws.{settle-broken, settle-taken, settle-refused}

@@ -2,9 +2,9 @@
 use borrow.Author.Needs.{needs}
 use denote.Ref.{now}
 use native.Mathlib.Omega.{arith}
-use mathlib.Core.Path.{_≡_, refl, sym, ap, _∙_}
+use mathlib.Core.Path.{refl, sym, _∙_}
 use Rattle.store.proofs.StoredFormLaws.{isStored-long}
-use Rattle.settling.proofs.CopyLaws.{copy-barred, copied, copy-has, copy-view, copy-settled, some-view}
+use Rattle.settling.proofs.CopyLaws.{copy-barred, copied, copy-view, copy-settled, view-there}
 use Rattle.settling.proofs.settle_hall.Statement.{statement}
 use Rattle.settling.proofs.settle_hall.Tie as tie
 
@@ -19,44 +19,33 @@ returns c =
     let a = c .before .before .before .before .before .args in
     copy-barred (now (a .bytes)) (c .before .before .before .before .before .pre .0) (sym (c .before .is-barred .ensures) ∙ c .if1 .taken) _ refl _
 
+greatest-view-requires : tie.Need-greatest-view-requires
+greatest-view-requires c κs =
+    let many = c .before .before .view-count .ensures .0 in
+    (c .before .before .before .before .before .pre .0, view-there (now (c .before .before .before .before .before .args .bytes)) (c .before .before .view-count .result) many (sym (c .before .is-barred .ensures) ∙ c .if1 .left), many)
+
 put-bytes-requires : tie.Need-put-bytes-requires
 put-bytes-requires c κs =
-    let a = c .before .before .before .before .before .before .args in
-    (isStored-long (now (a .bytes)) (c .before .before .before .before .before .before .pre .0), omega (arith, c .before .before .before .before .before .before .pre .1))
-
-sub-read-view : tie.Need-sub-read-view
-sub-read-view c =
-    let some = some-view (now (c .before .before .before .before .before .before .before .before .before .before .args .bytes)) (c .before .before .before .before .before .before .before .view-count .result) (c .before .before .before .before .before .before .before .view-count .ensures .0) (sym (c .before .before .before .before .before .before .is-barred .ensures) ∙ c .before .before .before .before .before .if1 .left) in
-    omega (arith, some)
-
-read-view-requires : tie.Need-read-view-requires
-read-view-requires c κs =
-    let a = c .before .before .before .before .before .before .before .before .before .before .args in
-    let b = now (a .bytes) in
-    let s = c .before .before .before .before .before .before .before .before .before .before .pre .0 in
-    let many = c .before .before .before .before .before .before .before .view-count .ensures .0 in
-    copy-has b s _ (c .before .before .before .put-bytes .ensures ∙ copied b (now (a .work)) s (c .before .before .before .before .before .before .before .before .before .before .pre .1)) (c .before .before .before .before .before .before .before .view-count .result) many
-    (some-view b (c .before .before .before .before .before .before .before .view-count .result) many (sym (c .before .before .before .before .before .before .is-barred .ensures) ∙ c .before .before .before .before .before .if1 .left))
+    let a = c .before .before .before .before .before .before .before .args in
+    (isStored-long (now (a .bytes)) (c .before .before .before .before .before .before .before .pre .0), omega (arith, c .before .before .before .before .before .before .before .pre .1))
 
 take-turns-requires : tie.Need-take-turns-requires
 take-turns-requires c κs =
-    let a = c .before .before .before .before .before .before .before .before .before .before .before .before .args in
-    let b = now (a .bytes) in
-    let s = c .before .before .before .before .before .before .before .before .before .before .before .before .pre .0 in
-    copy-view b s _ (c .before .before .before .before .before .put-bytes .ensures ∙ copied b (now (a .work)) s (c .before .before .before .before .before .before .before .before .before .before .before .before .pre .1)) (c .before .before .before .before .before .before .before .before .before .view-count .result) (c .before .before .before .before .before .before .before .before .before .view-count .ensures .0) (c .before .read-view .result)
-    (c .before .read-view .ensures .0)
+    let a = c .before .before .before .before .before .before .before .before .before .before .before .args in
+    let p = c .before .before .before .before .before .before .before .before .before .before .before .pre in
+    copy-view (now (a .bytes)) (p .0) _ (c .before .before .before .put-bytes .ensures ∙ copied (now (a .bytes)) (now (a .work)) (p .0) (p .1)) (c .before .before .before .before .before .greatest-view .result) (c .before .before .before .before .before .greatest-view .ensures)
 
 same-length : tie.Need-same-length
 same-length c = search needs
 
 returns-2 : tie.Need-returns-2
 returns-2 c =
-    let a = c .before .before .before .before .before .before .before .before .before .before .before .before .before .before .before .args in
-    let b = now (a .bytes) in
-    let s = c .before .before .before .before .before .before .before .before .before .before .before .before .before .before .before .pre .0 in
-    let is = c .before .before .before .before .before .before .before .before .put-bytes .ensures ∙ copied b (now (a .work)) s (c .before .before .before .before .before .before .before .before .before .before .before .before .before .before .before .pre .1) in
-    copy-settled b s _ is (sym (c .before .before .before .before .before .before .before .before .before .before .before .is-barred .ensures) ∙ c .before .before .before .before .before .before .before .before .before .before .if1 .left) (c .before .before .before .before .read-view .result)
-    (copy-view b s _ is (c .before .before .before .before .before .before .before .before .before .before .before .before .view-count .result) (c .before .before .before .before .before .before .before .before .before .before .before .before .view-count .ensures .0) (c .before .before .before .before .read-view .result) (c .before .before .before .before .read-view .ensures .0)) (c .before .before .take-turns .result) _ (c .before .before .take-turns .ensures)
+    let a = c .before .before .before .before .before .before .before .before .before .before .before .before .before .before .args in
+    let p = c .before .before .before .before .before .before .before .before .before .before .before .before .before .before .pre in
+    let is = c .before .before .before .before .before .before .put-bytes .ensures ∙ copied (now (a .bytes)) (now (a .work)) (p .0) (p .1) in
+    let v = c .before .before .before .before .before .before .before .before .greatest-view in
+    copy-settled (now (a .bytes)) (p .0) _ is (sym (c .before .before .before .before .before .before .before .before .before .before .is-barred .ensures) ∙ c .before .before .before .before .before .before .before .before .before .if1 .left) (v .result)
+    (copy-view (now (a .bytes)) (p .0) _ is (v .result) (v .ensures)) (c .before .before .take-turns .result) _ (c .before .before .take-turns .ensures)
 
 pub settle-hall-spec : {M : Type 1} → statement M
 settle-hall-spec =
@@ -65,9 +54,8 @@ settle-hall-spec =
     view-count-requires
     is-barred-requires
     returns
+    greatest-view-requires
     put-bytes-requires
-    sub-read-view
-    read-view-requires
     take-turns-requires
     same-length
     returns-2)

@@ -1,7 +1,7 @@
 -- 31, or the number of the settle on a copy. Assumes nothing.
 use borrow.Author.Needs.{needs}
 use denote.Ref.{now}
-use mathlib.Core.Path.{_≡_, refl, sym, ap, _∙_}
+use mathlib.Core.Path.{sym, ap, _∙_}
 use Rattle.model.specs.Answers.{Plain}
 use Rattle.step.proofs.StepsLaws.{bytes-hold}
 use Rattle.settling.proofs.CopyLaws.{broken-number}

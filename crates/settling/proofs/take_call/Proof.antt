@@ -1,7 +1,7 @@
 -- The step of the call. Assumes nothing.
 use borrow.Author.Needs.{needs}
 use denote.Ref.{now}
-use mathlib.Core.Path.{_≡_, refl, sym, ap, _∙_}
+use mathlib.Core.Path.{ap, _∙_}
 use Rattle.model.specs.Call.{wordsOf}
 use Rattle.model.specs.Settle.{settleCall}
 use Rattle.calls.specs.Calls.{stepOn}

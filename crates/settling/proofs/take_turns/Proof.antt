@@ -1,9 +1,8 @@
 -- The invariant: the calls taken so far, and what is left of the settle. Assumes nothing.
 use borrow.Author.Needs.{needs}
 use denote.Ref.{now}
-use native.Mathlib.Omega.{arith}
 use Prim.Native.Nat.{_-_, _≤_}
-use mathlib.Core.Path.{_≡_, refl, sym, ap, _∙_}
+use mathlib.Core.Path.{_≡_, refl, _∙_}
 use lib.ListN.{length}
 use Rattle.model.specs.Settle.{maxTurns}
 use Rattle.settling.proofs.TakenLaws.{Going, going-none, going-next, going-full, going-done, going-out}

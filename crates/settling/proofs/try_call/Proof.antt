@@ -1,7 +1,7 @@
 -- A member's call has the number of its step; 35 otherwise. Assumes nothing.
 use borrow.Author.Needs.{needs}
 use denote.Ref.{now}
-use mathlib.Core.Path.{_≡_, refl, sym, ap, _∙_}
+use mathlib.Core.Path.{sym, _∙_}
 use Rattle.store.specs.StoredForm.{hallOf}
 use Rattle.settling.proofs.TurnSteps.{member-call, no-member}
 use Rattle.settling.proofs.try_call.Statement.{statement}

@@ -1,5 +1,5 @@
 -- By the number. Assumes nothing.
-use mathlib.Core.Path.{_≡_, refl}
+use mathlib.Core.Path.{refl}
 use borrow.Author.Tests.{eq-eqb, ne-eqb}
 use Rattle.model.specs.Settle.{tried}
 use Rattle.settling.specs.Turns.{found}

@@ -1,6 +1,6 @@
 -- The view in kinds 6 and 7, else 0. Assumes nothing.
 use borrow.Author.Needs.{needs}
-use mathlib.Core.Path.{_≡_, refl, sym, _∙_}
+use mathlib.Core.Path.{refl, sym, _∙_}
 use Rattle.model.specs.Settle.{settleCall}
 use Rattle.settling.proofs.view_word.Statement.{statement}
 use Rattle.settling.proofs.view_word.Tie as tie
