@@ -8,31 +8,39 @@
 //! - no list is ever full (40), and an entry to send or deliver is always
 //!   known (39 at kinds 3 and 11);
 //! - with HL3's choice no entry in an order leaves its place, unless another
-//!   member of the view knows of a higher primary.
+//!   member of the view knows of a higher primary;
+//! - a settle, where there is one, is the run of its steps, all accepted, at most
+//!   2,392; it is refused with 42 alone, just where the greatest view is not
+//!   primary; after it none of its calls is allowed, and all that was submitted at
+//!   a member has been delivered at every member.
 //!
-//! All but the last hold for whichever source with the greatest highest primary
-//! represents, the same one for every member of a view: for HL3's choice, for
-//! 01's, and for one that changes from view to view. All hold for every row of
+//! All but the one on places hold for whichever source with the greatest highest
+//! primary represents, the same one for every member of a view: for HL3's choice,
+//! for 01's, and for one that changes from view to view. All hold for every row of
 //! votes that passes. They do not hold for a choice that looks at the length
-//! first, nor the last one for 01's, nor for a row that changes on the way, which
-//! shows that these runs can fail.
+//! first, nor the one on places for 01's, nor for a row that changes on the way,
+//! nor for a settle that leaves out a kind, a step or 42, which shows that these
+//! runs can fail.
 
 use reference::choice::{
-    greatest_number, least_number, length_first, longest_order, Choice, Source,
+    greatest_number, least_number, length_first, longest_order, trying, Choice, Source,
 };
 use reference::exchange::heard_sources;
-use reference::hall::{at_mark, is_quorum, judge_votes, recorder_bit, MOST_VOTES};
+use reference::hall::{at_mark, is_quorum, judge_votes, place_of, recorder_bit, MOST_VOTES};
+use reference::settle::{turn_actions, KINDS, MOST_STEPS};
 use reference::{
     actions, built_in_votes, open, refusal, Answer, Hall, Phase, Recorder, View, Votes,
 };
 use std::collections::BTreeMap;
 
-/// Runs with HL3's choice, with each other one, with what is wrong, and with
-/// rows of votes.
+/// Runs with HL3's choice, with each other one, with what is wrong, with rows of
+/// votes, with settles, and with each wrong settle.
 const RUNS: u64 = 240;
 const OTHER_RUNS: u64 = 120;
 const WRONG_RUNS: u64 = 800;
 const ROW_RUNS: u64 = 240;
+const SETTLE_RUNS: u64 = 120;
+const WRONG_SETTLE_RUNS: u64 = 10;
 /// Steps between two looks at the whole hall.
 const BETWEEN_LOOKS: u32 = 40;
 
@@ -83,6 +91,9 @@ impl Rows {
     }
 }
 
+/// Settles a hall and gives the steps taken, as `Hall::settle` does.
+type Settling<'a> = &'a dyn Fn(&mut Hall) -> Result<Vec<[u32; 4]>, u32>;
+
 /// What does not hold of a run.
 type Broken = &'static str;
 
@@ -93,6 +104,11 @@ const CONFIRMED: Broken = "a confirmed list does not begin the order of a primar
 const SAME_PRIMARY: Broken = "two orders of one primary, and none begins the other";
 const FULL: Broken = "a list is full";
 const NOT_KNOWN: Broken = "an entry to send or deliver is not known";
+const SETTLE_REFUSED: Broken = "42 is not given just where the greatest view is not primary";
+const SETTLE_LONG: Broken = "a settle has too many steps";
+const SETTLE_RUN: Broken = "a settle is not the run of its steps";
+const SETTLE_ENDS: Broken = "a call is left after a settle";
+const SETTLE_COMPLETE: Broken = "an entry of a member is not delivered at all after a settle";
 
 fn hold(holds: bool, broken: Broken) -> Result<(), Broken> {
     if holds {
@@ -318,6 +334,21 @@ struct Counts {
     /// Pairs of recorders compared whose highest primaries differ, and where
     /// the lower one has confirmed something.
     unequal_pairs: u64,
+    /// Settles with steps, without any, and refused with 42.
+    settled: u64,
+    settled_before: u64,
+    not_settled: u64,
+    /// Settles with a member that has yet to enter, to send its summary, and to
+    /// collect the others'.
+    to_enter: u64,
+    to_send: u64,
+    to_collect: u64,
+    /// Settles in a view that is not of all.
+    settled_apart: u64,
+    /// Delivered by settles in a later view than the one of the label.
+    settled_later: u64,
+    /// The steps of the longest one.
+    longest_settle: u64,
 }
 
 /// A hall and the lists that its run has given for each recorder.
@@ -362,6 +393,67 @@ impl Run {
             _ => (),
         }
         Ok(answer)
+    }
+
+    /// Settles the hall, as the run of the steps that the settle gives.
+    fn settle(&mut self, settling: Settling) -> Result<(), Broken> {
+        let mut settled = self.hall.clone();
+        let result = trying(self.choice, || settling(&mut settled));
+        hold(result != Err(refusal::FULL), FULL)?;
+        let wanted = self.settle_refusal();
+        hold(result.as_ref().err() == wanted.as_ref(), SETTLE_REFUSED)?;
+        let Ok(steps) = result else {
+            self.counts.not_settled += 1;
+            return hold(self.hall == settled, SETTLE_RUN);
+        };
+        hold(steps.len() <= MOST_STEPS, SETTLE_LONG)?;
+        self.note_settle(steps.len() as u64);
+        let delivered_later = self.counts.delivered_later;
+        for step in steps {
+            let answer = self.step(step)?;
+            hold(!is_refused(answer), SETTLE_RUN)?;
+        }
+        self.counts.settled_later += self.counts.delivered_later - delivered_later;
+        hold(self.hall == settled, SETTLE_RUN)?;
+        self.check_complete()?;
+        self.check_none_left()
+    }
+
+    /// The view with the greatest number, which comes last.
+    fn greatest_view(&self) -> &View {
+        self.hall.views.last().expect("a run has view 1")
+    }
+
+    /// The refusal of a settle.
+    fn settle_refusal(&self) -> Option<u32> {
+        let primary = self.hall.is_primary(self.greatest_view());
+        (!primary).then_some(refusal::NOT_PRIMARY)
+    }
+
+    /// The recorders that are members of the greatest view.
+    fn members(&self) -> impl Iterator<Item = u32> + '_ {
+        (1..=self.hall.n).filter(|&r| self.greatest_view().has(r))
+    }
+
+    /// Notes a settle that is about to take its steps.
+    fn note_settle(&mut self, steps: u64) {
+        self.counts.longest_settle = self.counts.longest_settle.max(steps);
+        if steps == 0 {
+            self.counts.settled_before += 1;
+            return;
+        }
+        let number = self.greatest_view().number;
+        let members: Vec<&Recorder> = self.members().map(|r| self.hall.recorder(r)).collect();
+        let is_in = |member: &Recorder, phase| member.current == number && member.phase == phase;
+        let to_enter = members.iter().any(|member| member.current != number);
+        let to_send = members.iter().any(|member| is_in(member, Phase::Send));
+        let to_collect = members.iter().any(|member| is_in(member, Phase::Collect));
+        let apart = members.len() < self.hall.recorders.len();
+        self.counts.settled += 1;
+        self.counts.to_enter += u64::from(to_enter);
+        self.counts.to_send += u64::from(to_send);
+        self.counts.to_collect += u64::from(to_collect);
+        self.counts.settled_apart += u64::from(apart);
     }
 
     /// What stands at recorder R before an action, if there is such a recorder.
@@ -486,14 +578,40 @@ impl Run {
 
     /// Each delivered list has each sender's first entries, in order.
     fn check_senders(&self) -> Result<(), Broken> {
-        for delivered in &self.delivered {
+        for r in 1..=self.hall.n {
             for (sender, submitted) in (1..).zip(&self.submitted) {
-                let is_from = |&entry: &usize| self.hall.entries[entry].sender == sender;
-                let from: Vec<usize> = delivered.iter().copied().filter(is_from).collect();
-                hold(begins(&from, submitted), SENDERS)?;
+                hold(begins(&self.delivered_from(r, sender), submitted), SENDERS)?;
             }
         }
         Ok(())
+    }
+
+    /// The entries of a sender that R has delivered.
+    fn delivered_from(&self, r: u32, sender: u32) -> Vec<usize> {
+        let is_from = |&entry: &usize| self.hall.entries[entry].sender == sender;
+        let delivered = self.delivered[place_of(r)].iter().copied();
+        delivered.filter(is_from).collect()
+    }
+
+    /// All that was submitted at a member of the greatest view has been delivered
+    /// at every member, in order.
+    fn check_complete(&self) -> Result<(), Broken> {
+        for r in self.members() {
+            for sender in self.members() {
+                let complete = self.delivered_from(r, sender) == self.submitted[place_of(sender)];
+                hold(complete, SETTLE_COMPLETE)?;
+            }
+        }
+        Ok(())
+    }
+
+    /// No call of a settle is allowed.
+    fn check_none_left(&self) -> Result<(), Broken> {
+        let view = self.greatest_view();
+        let mut calls = turn_actions(view.number, view.members);
+        let mut hall = self.hall.clone();
+        let none_left = calls.all(|call| is_refused(hall.step_with(self.choice, call)));
+        hold(none_left, SETTLE_ENDS)
     }
 
     /// Of two delivered lists one begins the other.
@@ -554,6 +672,10 @@ fn begins(list: &[usize], other: &[usize]) -> bool {
     other.starts_with(list)
 }
 
+fn is_refused(answer: Answer) -> bool {
+    matches!(answer, Answer::Refused(_))
+}
+
 /// In a run no list is ever full, and what is sent or delivered is known.
 fn judge_refusal(k: u32, number: u32) -> Result<(), Broken> {
     hold(number != refusal::FULL, FULL)?;
@@ -561,16 +683,29 @@ fn judge_refusal(k: u32, number: u32) -> Result<(), Broken> {
     hold(!(names_entry && number == refusal::NOT_READY), NOT_KNOWN)
 }
 
-/// One run; now and then a refused call is shown to change nothing.
-fn random_run(choice: Choice, rows: Rows, seed: u64) -> Result<Counts, Broken> {
+/// One run, with settles or without; now and then a refused call is shown to
+/// change nothing.
+fn random_run(
+    choice: Choice,
+    rows: Rows,
+    settling: Option<Settling>,
+    seed: u64,
+) -> Result<Counts, Broken> {
     let mut random = Random(seed);
-    // Rows have numbers of their own, so that a run is the same with any.
+    // Rows have numbers of their own, so that a run is the same with any. So have
+    // the places of settles.
     let mut of_rows = Random(!seed);
+    let mut of_settles = Random(seed << 32);
+    let between_settles = of_settles.pick(&[60, 400, 2_000]);
     let n = random.between(1, 8);
     let founders = random.below(1 << n);
     let style = Style::random(&mut random, n);
     let mut run = Run::opened(choice, n, founders, rows.row(&mut of_rows, n));
     for place in 0..style.steps {
+        if let Some(settling) = settling.filter(|_| of_settles.one_in(between_settles)) {
+            run.settle(settling)?;
+            run.look()?;
+        }
         let kept = (place % BETWEEN_LOOKS == 0).then(|| run.hall.clone());
         let action = style.action(&mut random, &run.hall, place);
         let answer = run.step(action)?;
@@ -605,18 +740,33 @@ fn add(sum: &mut Counts, counts: Counts) {
     sum.without_1 += counts.without_1;
     sum.no_votes_of_1 += counts.no_votes_of_1;
     sum.unequal_pairs += counts.unequal_pairs;
+    sum.settled += counts.settled;
+    sum.settled_before += counts.settled_before;
+    sum.not_settled += counts.not_settled;
+    sum.to_enter += counts.to_enter;
+    sum.to_send += counts.to_send;
+    sum.to_collect += counts.to_collect;
+    sum.settled_apart += counts.settled_apart;
+    sum.settled_later += counts.settled_later;
+    sum.longest_settle = sum.longest_settle.max(counts.longest_settle);
 }
 
-/// Runs with a choice and rows; a promise that is broken is told with its seed.
-fn random_runs(choice: Choice, rows: Rows, runs: u64) -> Counts {
+/// What runs met; a promise that is broken is told with its seed.
+fn met_by(runs: u64, run: impl Fn(u64) -> Result<Counts, Broken>) -> Counts {
     let mut sum = Counts::default();
     for seed in 1..=runs {
-        match random_run(choice, rows, seed) {
+        match run(seed) {
             Ok(counts) => add(&mut sum, counts),
             Err(broken) => panic!("seed {seed}: {broken}"),
         }
     }
     println!("{sum:?}");
+    sum
+}
+
+/// Runs with a choice and rows.
+fn random_runs(choice: Choice, rows: Rows, runs: u64) -> Counts {
+    let sum = met_by(runs, |seed| random_run(choice, rows, None, seed));
     // The runs are worth something only if they meet the hard cases; so many
     // of them in 40 runs.
     let met = |count: u64, least: u64| assert!(40 * count >= runs * least);
@@ -667,11 +817,39 @@ fn so_they_do_with_any_row_and_a_choice_by_view() {
     random_runs(by_view, Rows::Given, OTHER_RUNS);
 }
 
+/// Runs with settles at random places.
+fn settling_runs(choice: Choice, rows: Rows) -> Counts {
+    let settling = Some(&Hall::settle as Settling);
+    let sum = met_by(SETTLE_RUNS, |seed| random_run(choice, rows, settling, seed));
+    // So many of each in 40 runs.
+    let met = |count: u64, least: u64| assert!(40 * count >= SETTLE_RUNS * least);
+    met(sum.settled, 160);
+    met(sum.settled_before, 160);
+    met(sum.not_settled, 160);
+    met(sum.to_enter, 80);
+    met(sum.to_send, 60);
+    met(sum.to_collect, 60);
+    met(sum.settled_apart, 80);
+    met(sum.settled_later, 1_600);
+    met(sum.delivered_far, 1_000);
+    assert!(sum.longest_settle >= 2_000);
+    sum
+}
+
+#[test]
+fn random_runs_settle() {
+    for rows in [Rows::BuiltIn, Rows::Given] {
+        let sum = settling_runs(longest_order, rows);
+        assert_eq!(sum.shifted, 0);
+    }
+    settling_runs(by_view, Rows::Given);
+}
+
 /// The promises that wrong runs break.
-fn broken_by(choice: Choice, rows: Rows) -> BTreeMap<Broken, u64> {
+fn broken_by(runs: u64, run: impl Fn(u64) -> Result<Counts, Broken>) -> BTreeMap<Broken, u64> {
     let mut broken: BTreeMap<Broken, u64> = BTreeMap::new();
-    for seed in 1..=WRONG_RUNS {
-        if let Err(what) = random_run(choice, rows, seed) {
+    for seed in 1..=runs {
+        if let Err(what) = run(seed) {
             *broken.entry(what).or_default() += 1;
         }
     }
@@ -682,7 +860,8 @@ fn broken_by(choice: Choice, rows: Rows) -> BTreeMap<Broken, u64> {
 /// With a wrong choice the same runs break the promise.
 #[test]
 fn they_do_not_with_the_length_first() {
-    let broken = broken_by(length_first, Rows::BuiltIn);
+    let run = |seed| random_run(length_first, Rows::BuiltIn, None, seed);
+    let broken = broken_by(WRONG_RUNS, run);
     assert!(broken.contains_key(DELIVERED));
     assert!(broken.contains_key(CONFIRMED));
 }
@@ -690,7 +869,74 @@ fn they_do_not_with_the_length_first() {
 /// So they do if the hall does not keep its row.
 #[test]
 fn they_do_not_with_a_row_that_changes() {
-    let broken = broken_by(longest_order, Rows::Changing);
+    let run = |seed| random_run(longest_order, Rows::Changing, None, seed);
+    let broken = broken_by(WRONG_RUNS, run);
     assert!(broken.contains_key(DELIVERED));
     assert!(broken.contains_key(CONFIRMED));
+}
+
+/// The promises that runs with a wrong settle break.
+fn broken_by_settling(settling: Settling) -> BTreeMap<Broken, u64> {
+    let run = |seed| random_run(longest_order, Rows::Given, Some(settling), seed);
+    broken_by(WRONG_SETTLE_RUNS, run)
+}
+
+fn accepted(hall: &mut Hall, [k, r, a, b]: [u32; 4]) -> bool {
+    !is_refused(hall.step(k, r, a, b))
+}
+
+/// Takes the first call in the greatest view, but for those of a kind, until none
+/// is left, and is never refused.
+fn settle_without(left_out: u32, hall: &mut Hall) -> Vec<[u32; 4]> {
+    let view = hall.greatest_view().expect("a run has view 1");
+    let calls = turn_actions(view.number, view.members);
+    let calls: Vec<[u32; 4]> = calls.filter(|&[kind, ..]| kind != left_out).collect();
+    let mut steps = Vec::new();
+    while let Some(&call) = calls.iter().find(|&&call| accepted(hall, call)) {
+        steps.push(call);
+    }
+    steps
+}
+
+/// Each kind is needed.
+#[test]
+fn they_do_not_settle_without_a_kind() {
+    for kind in KINDS {
+        let broken = broken_by_settling(&|hall| {
+            let settled = hall.clone().settle();
+            settled.map(|_| settle_without(kind, hall))
+        });
+        assert!(broken.contains_key(SETTLE_COMPLETE), "kind {kind}");
+    }
+}
+
+/// So is the last step.
+#[test]
+fn they_do_not_settle_with_a_step_less() {
+    let broken = broken_by_settling(&|hall| {
+        let mut steps = hall.clone().settle()?;
+        steps.pop();
+        assert!(steps.iter().all(|&call| accepted(hall, call)));
+        Ok(steps)
+    });
+    assert!(broken.contains_key(SETTLE_COMPLETE));
+}
+
+/// Steps that were not taken, or one that is not told.
+#[test]
+fn they_do_not_settle_with_other_steps() {
+    let broken = broken_by_settling(&|hall| hall.clone().settle());
+    assert!(broken.contains_key(SETTLE_RUN));
+    let broken = broken_by_settling(&|hall| {
+        let mut steps = hall.settle()?;
+        steps.pop();
+        Ok(steps)
+    });
+    assert!(broken.contains_key(SETTLE_RUN));
+}
+
+#[test]
+fn they_do_not_settle_without_a_quorum() {
+    let broken = broken_by_settling(&|hall| Ok(settle_without(0, hall)));
+    assert!(broken.contains_key(SETTLE_REFUSED));
 }

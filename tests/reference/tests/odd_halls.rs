@@ -1,8 +1,10 @@
 //! The rules on valid halls that no run reaches, and which halls are valid.
 
+mod halls;
+
+use halls::{full_hall, labelled, queued, summary};
 use reference::{
-    built_in_votes, open_built_in, Answer, Entry, Hall, Label, Message, Phase, Queued, Recorder,
-    Seat, Summary, View,
+    built_in_votes, open_built_in, Answer, Hall, Message, Phase, Recorder, Seat, Summary, View,
 };
 
 const DONE: Answer = Answer::Done;
@@ -16,35 +18,6 @@ const HIGHER_AND_LOWER: [(u32, u32); 5] = [
     (1 << 31, (1 << 31) - 1),
     (u32::MAX, u32::MAX - 1),
 ];
-
-fn labelled(view: u32, seq: u32, sender: u32) -> Entry {
-    Entry {
-        sender,
-        value: 100 * sender + seq,
-        label: Some(Label { view, seq, sender }),
-    }
-}
-
-/// An open hall of all recorders, with 64 labelled entries of recorder 1. Later
-/// entries have lower labels.
-fn full_hall(n: u32) -> Hall {
-    let mut hall = open_built_in(n, 0).unwrap();
-    hall.entries = (0..64).map(|k| labelled(3, 64 - k, 1)).collect();
-    hall
-}
-
-fn queued(source: u32, message: Message) -> Queued {
-    Queued { source, message }
-}
-
-fn summary(known: u64, order: Vec<usize>, confirm: u32, high: u32) -> Summary {
-    Summary {
-        known,
-        order,
-        confirm,
-        high,
-    }
-}
 
 /// Sends and queues a summary of a source in the hall's first view.
 fn put_summary(hall: &mut Hall, source: u32, sent: Summary) {
