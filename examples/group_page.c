@@ -11,15 +11,18 @@
  *
  * A line of the input is one of
  *     K R A B    an action: kind, recorder, two arguments, 0 where unused
+ *     settle     settle the hall: all steps that complete the log in the view
+ *                with the greatest number; says how many they were
  *     page R     show the page of recorder R as it is now
  *     # ...      a remark; empty lines are passed over too
  *
- * A refused action changes nothing; the refusal is explained in words. A page
- * shows the margin of the recorder's group: twice its votes less those of the
- * hall, above 0 if the group is primary.
+ * A refused action or settle changes nothing; the refusal is explained in words.
+ * A page shows the margin of the recorder's group: twice its votes less those of
+ * the hall, above 0 if the group is primary.
  *
  * With --record, FILE becomes a run file of the opening and all actions given,
- * refused ones too; ./replay FILE lists it. It has votes just if they are given
+ * refused ones too; ./replay FILE lists it. A settle stands there as the actions
+ * that it took, a refused one not at all. FILE has votes just if they are given
  * here.
  *
  * The exit status is 0, or 1 if a line is not understood, the opening or a page
@@ -45,8 +48,12 @@ struct run {
     uint32_t n, founders;
     int has_votes; /* whether votes were given; else the row is the built-in one */
     uint32_t votes[HALL_RECORDERS];
+    uint32_t view, members; /* the view with the greatest number: that number, and its set */
+    const char *record;     /* the file to write, NULL for none */
     uint32_t actions[4 * HALL_MAX_ACTIONS]; /* the first of the actions given */
     unsigned long given;                    /* how many were given */
+    uint8_t before[HALL_LENGTH];            /* the hall before a settle: its actions are found there */
+    unsigned long unlike;                   /* line of a settle that counts other than these, or 0 */
     uint8_t file[HALL_MAX_FILE];            /* room for the run file */
 };
 
@@ -106,15 +113,18 @@ static const char *reason_by_kind(uint32_t number, uint32_t kind)
             return "too many messages of the recorder are pending";
         case HALL_PLACE:
             return "the group's queue is full";
-        default:
+        case HALL_RECEIVE:
             return "the recorder's log is full";
+        default:
+            return "there is no room for one of its steps";
         }
     default:
         return "the reason is not known to this program";
     }
 }
 
-/* Why an opening, an action or a page was refused; kind is 0 but for actions. */
+/* Why an opening, an action, a settle or a page was refused; kind is 0 but for
+ * actions. */
 static const char *reason(uint32_t number, uint32_t kind)
 {
     switch (number) {
@@ -142,6 +152,8 @@ static const char *reason(uint32_t number, uint32_t kind)
         return "the recorder is not a member of this view";
     case HALL_REFUSED_NOT_ABOVE:
         return "the recorder is in this view already, or in a later one";
+    case HALL_REFUSED_NOT_PRIMARY:
+        return "no view is formed, or the one with the greatest number is not primary";
     default:
         return reason_by_kind(number, kind);
     }
@@ -161,12 +173,17 @@ static const char *phase_words(uint32_t phase)
 
 /* -- The page ------------------------------------------------------------ */
 
+static int is_member(uint32_t set, uint32_t r)
+{
+    return (set >> (r - 1) & 1) != 0;
+}
+
 /* The members of a set as "1, 2, 5". */
 static void print_set(uint32_t set)
 {
     const char *before = "";
     for (uint32_t k = 1; k <= HALL_RECORDERS; k++) {
-        if (set >> (k - 1) & 1) {
+        if (is_member(set, k)) {
             printf("%s%" PRIu32, before, k);
             before = ", ";
         }
@@ -322,20 +339,104 @@ static int read_line(struct line *line)
     return !ferror(stdin);
 }
 
-/* Takes one action; says why if it is refused. */
-static void take_action(struct run *run, const uint32_t *words, unsigned long at)
+/* -- Actions ------------------------------------------------------------- */
+
+/* Performs an action on a hall. HALL_OK, or the number of a refusal. */
+static uint32_t step(uint8_t *hall, const uint32_t *words)
 {
     uint8_t answer[HALL_ANSWER_LENGTH];
-    uint32_t number =
-        hall_step(run->hall, HALL_LENGTH, words[0], words[1], words[2], words[3], answer, sizeof answer);
-    if (number != HALL_OK) {
-        printf("line %lu: %" PRIu32 " %" PRIu32 " %" PRIu32 " %" PRIu32 " refused (%" PRIu32 "): %s\n", at,
-               words[0], words[1], words[2], words[3], number, reason(number, words[0]));
-    }
+    return hall_step(hall, HALL_LENGTH, words[0], words[1], words[2], words[3], answer, sizeof answer);
+}
+
+/* Keeps an action for the record. */
+static void keep_action(struct run *run, const uint32_t *words)
+{
     if (run->given < HALL_MAX_ACTIONS) {
         memcpy(run->actions + 4 * run->given, words, 4 * sizeof *words);
     }
     run->given++;
+}
+
+/* Takes one action; says why if it is refused. */
+static void take_action(struct run *run, const uint32_t *words, unsigned long at)
+{
+    uint32_t number = step(run->hall, words);
+    if (number != HALL_OK) {
+        printf("line %lu: %" PRIu32 " %" PRIu32 " %" PRIu32 " %" PRIu32 " refused (%" PRIu32 "): %s\n", at,
+               words[0], words[1], words[2], words[3], number, reason(number, words[0]));
+    } else if (words[0] == HALL_FORM) {
+        run->view = words[2];
+        run->members = words[3];
+    }
+    keep_action(run, words);
+}
+
+/* The order in which a turn of a settle tries the kinds. */
+static const uint32_t settle_kinds[] = {
+    HALL_ENTER,   HALL_SEND_SUMMARY, HALL_SEND_ENTRY, HALL_LABEL,   HALL_PLACE,
+    HALL_RECEIVE, HALL_SAFE,         HALL_CONFIRM,    HALL_DELIVER,
+};
+
+enum { SETTLE_KINDS = sizeof settle_kinds / sizeof settle_kinds[0] };
+
+/* Keeps an action of kind k at recorder r if the hall before a settle takes it.
+ * Whether it does. */
+static int keep_step(struct run *run, uint32_t k, uint32_t r)
+{
+    const uint32_t words[4] = {k, r, k == HALL_ENTER || k == HALL_PLACE ? run->view : 0, 0};
+    if (step(run->before, words) != HALL_OK) {
+        return 0;
+    }
+    keep_action(run, words);
+    return 1;
+}
+
+/* Keeps the first action that a turn of a settle finds. Whether there is one. */
+static int keep_turn(struct run *run)
+{
+    for (size_t i = 0; i < SETTLE_KINDS; i++) {
+        for (uint32_t r = 1; r <= HALL_RECORDERS; r++) {
+            if (is_member(run->members, r) && keep_step(run, settle_kinds[i], r)) {
+                return 1;
+            }
+        }
+    }
+    return 0;
+}
+
+/* Keeps the actions of a settle for the record. Whether they are as many as the
+ * settle has counted. */
+static int keep_settle(struct run *run, uint32_t count)
+{
+    unsigned long given = run->given;
+    while (keep_turn(run)) {
+    }
+    return run->given - given == count;
+}
+
+/* Settles the hall; says how many steps that took, or why it is refused. */
+static void take_settle(struct run *run, unsigned long at)
+{
+    uint8_t answer[HALL_ANSWER_LENGTH];
+    memcpy(run->before, run->hall, HALL_LENGTH);
+    uint32_t number = hall_settle(run->hall, HALL_LENGTH, answer, sizeof answer);
+    if (number != HALL_OK) {
+        printf("line %lu: settle refused (%" PRIu32 "): %s\n", at, number, reason(number, 0));
+        return;
+    }
+    uint32_t count = hall_word(answer, HALL_SETTLE_COUNT);
+    printf("line %lu: settled in %" PRIu32 " step%s\n", at, count, count == 1 ? "" : "s");
+    if (run->record && !keep_settle(run, count)) {
+        run->unlike = at;
+    }
+}
+
+/* -- Lines --------------------------------------------------------------- */
+
+/* Whether a text is just `settle`. */
+static int is_settle(const char *text)
+{
+    return strncmp(text, "settle", 6) == 0 && take_numbers(text + 6, NULL, 0);
 }
 
 /* Whether a text is `page` and a recorder. */
@@ -345,7 +446,8 @@ static int is_page(const char *text, uint32_t *recorder)
            take_numbers(text + 4, recorder, 1);
 }
 
-/* Does what a line asks for. Whether that went well; a refused action does. */
+/* Does what a line asks for. Whether that went well; a refused action or settle
+ * does. */
 static int take_line(struct run *run, const struct line *line, unsigned long at)
 {
     uint32_t words[4];
@@ -363,6 +465,10 @@ static int take_line(struct run *run, const struct line *line, unsigned long at)
         }
         if (is_page(text, words)) {
             return show_page(run->hall, words[0]);
+        }
+        if (is_settle(text)) {
+            take_settle(run, at);
+            return 1;
         }
         if (take_numbers(text, words, 4)) {
             take_action(run, words, at);
@@ -417,22 +523,36 @@ static uint32_t make_record(struct run *run, uint8_t *words)
                                    4 * run->given, words, HALL_ANSWER_LENGTH);
 }
 
+/* Whether the actions are known and fit into a run file; says why not. */
+static int can_record(const struct run *run)
+{
+    unsigned long most = run->has_votes ? HALL_MAX_ACTIONS_WITH_VOTES : HALL_MAX_ACTIONS;
+    if (run->unlike != 0) {
+        fprintf(stderr, "%s is not written: the settle of line %lu has not as many actions as it counts\n",
+                run->record, run->unlike);
+        return 0;
+    }
+    if (run->given > most) {
+        fprintf(stderr, "%s is not written: %lu actions were given, and a run file%s has %lu at most\n",
+                run->record, run->given, run->has_votes ? " with votes" : "", most);
+        return 0;
+    }
+    return 1;
+}
+
 /* Writes a run as a run file. Whether that went well. */
-static int write_record(struct run *run, const char *path)
+static int write_record(struct run *run)
 {
     uint8_t words[HALL_ANSWER_LENGTH];
-    unsigned long most = run->has_votes ? HALL_MAX_ACTIONS_WITH_VOTES : HALL_MAX_ACTIONS;
-    if (run->given > most) {
-        fprintf(stderr, "%s is not written: %lu actions were given, and a run file%s has %lu at most\n", path,
-                run->given, run->has_votes ? " with votes" : "", most);
+    if (!can_record(run)) {
         return 0;
     }
     uint32_t number = make_record(run, words);
     if (number != HALL_OK) {
-        fprintf(stderr, "%s is not written (%" PRIu32 "): %s\n", path, number, reason(number, 0));
+        fprintf(stderr, "%s is not written (%" PRIu32 "): %s\n", run->record, number, reason(number, 0));
         return 0;
     }
-    return write_file(path, run->file, hall_word(words, HALL_WRITTEN_LENGTH));
+    return write_file(run->record, run->file, hall_word(words, HALL_WRITTEN_LENGTH));
 }
 
 /* -- The program --------------------------------------------------------- */
@@ -455,17 +575,27 @@ static uint32_t open_hall(struct run *run)
     return hall_open_built_in(run->hall, HALL_LENGTH, run->n, run->founders);
 }
 
+/* What is known of a hall just opened. */
+static void begin(struct run *run)
+{
+    run->view = 1;
+    run->members = run->founders != 0 ? run->founders : (1u << run->n) - 1;
+    run->given = 0;
+    run->unlike = 0;
+}
+
 /* Opens the hall, takes the input and shows the page. Whether all went well. */
-static int perform(struct run *run, uint32_t recorder, const char *record)
+static int perform(struct run *run, uint32_t recorder)
 {
     uint32_t number = open_hall(run);
     if (number != HALL_OK) {
         printf("opening refused (%" PRIu32 "): %s\n", number, reason(number, 0));
         return 0;
     }
+    begin(run);
     int taken = take_lines(run);
     int shown = show_page(run->hall, recorder);
-    int recorded = !record || write_record(run, record);
+    int recorded = !run->record || write_record(run);
     return taken && shown && recorded;
 }
 
@@ -503,7 +633,6 @@ static int take_opening(int words, char **texts, struct run *run, uint32_t *reco
 
 int main(int argc, char **argv)
 {
-    const char *record = NULL;
     uint32_t recorder;
     int status = 2;
     struct run *run = malloc(sizeof *run);
@@ -511,14 +640,14 @@ int main(int argc, char **argv)
         fputs("no memory\n", stderr);
         return status;
     }
+    run->record = NULL;
     if (argc >= 3 && strcmp(argv[1], "--record") == 0) {
-        record = argv[2];
+        run->record = argv[2];
         argv += 2;
         argc -= 2;
     }
     if (take_opening(argc - 1, argv + 1, run, &recorder)) {
-        run->given = 0;
-        int well = perform(run, recorder, record);
+        int well = perform(run, recorder);
         status = end_output() && well ? 0 : 1;
     } else {
         fputs("usage: group_page [--record FILE] N FOUNDERS RECORDER [V1 V2 V3 V4 V5 V6 V7 V8] < ACTIONS\n"

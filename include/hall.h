@@ -1,6 +1,6 @@
 /*
- * HL3 hall log: open a hall, perform an action, read a recorder's page; read
- * and write run files.
+ * HL3 hall log: open a hall, perform an action, settle the hall, read a
+ * recorder's page; read and write run files.
  *
  * A hall is HALL_LENGTH bytes that the caller owns and lends to each call;
  * docs/stored-form.md describes them. The library keeps nothing between calls
@@ -8,7 +8,7 @@
  *
  * All calls return HALL_OK, which is 0, or the number of a refusal (enum
  * hall_refusal). A refused call leaves every lent byte as it was. Where several
- * refusals fit, the first in the order 11, 31, 12 to 16, 41, 32 to 40, 18 is
+ * refusals fit, the first in the order 11, 31, 12 to 16, 41, 42, 32 to 40, 18 is
  * given; 19, of run files alone, comes before 16 in reading and after 41 in
  * writing.
  *
@@ -22,12 +22,14 @@
  *
  * Threads. Different halls are independent: different threads may use them at
  * the same time. Of one hall, pages may be read by several threads at once, each
- * into a slice of its own; while a thread opens or steps it no other thread uses
- * it, so a caller that shares a hall locks it. The library itself never waits.
+ * into a slice of its own; while a thread opens, steps or settles it no other
+ * thread uses it, so a caller that shares a hall locks it. The library itself
+ * never waits.
  *
  * Platform. The library is built for Linux on x86-64, with the System V calling
- * convention. From outside it needs memcpy and memset alone. A call takes at most
- * HALL_STACK bytes of stack, beside what the thread itself needs.
+ * convention. From outside it needs memcpy and memset alone. A settle takes at
+ * most HALL_SETTLE_STACK bytes of stack and any other call at most HALL_STACK,
+ * beside what the thread itself needs.
  */
 #ifndef HL3_HALL_LOG_HALL_H
 #define HL3_HALL_LOG_HALL_H
@@ -42,10 +44,13 @@ extern "C" {
 /* Bytes of a hall. */
 #define HALL_LENGTH 59731
 
-/* Bytes of stack that suffice for any call: none but a step that receives the
- * last summary of an exchange takes 4,096, and that one takes more for each entry
- * still to be ordered. */
+/* Bytes of stack that suffice for any call but a settle: none but a step that
+ * receives the last summary of an exchange takes 4,096, and that one takes more
+ * for each entry still to be ordered. */
 #define HALL_STACK 8192
+
+/* Bytes of stack that suffice for a settle: it works on a copy of the hall. */
+#define HALL_SETTLE_STACK 69632
 
 /* Bytes of an answer or a page: HALL_WORDS words of 32 bits, little-endian,
  * each read by hall_word. Words that are not described are 0; they are spare
@@ -75,6 +80,9 @@ extern "C" {
 /* Numbers of views run from 1 to this one; 0 is refused with 14. */
 #define HALL_MAX_VIEW_NUMBER 4294967295u
 
+/* Steps that a settle takes at most. */
+#define HALL_MAX_SETTLE_STEPS 2392
+
 /* Kinds of actions: word k of a step. Each uses the words named here; an unused
  * word is 0. R is the recorder, from 1 on. */
 enum hall_kind {
@@ -100,7 +108,7 @@ enum hall_case {
     HALL_CASE_FROM = 3     /* HALL_FROM_...: kind 11 */
 };
 
-/* Words of an answer. */
+/* Words of a step's answer. */
 enum hall_answer_word {
     HALL_ANSWER_CASE = 0,
 
@@ -121,6 +129,11 @@ enum hall_answer_word {
     /* A delivered entry. */
     HALL_FROM_SENDER = 1,
     HALL_FROM_VALUE = 2
+};
+
+/* Words of a settle's answer. */
+enum hall_settle_word {
+    HALL_SETTLE_COUNT = 0 /* how many steps it took */
 };
 
 /* Words of a page. */
@@ -176,8 +189,10 @@ enum hall_refusal {
                                      before the mark or place, or report has reached confirm */
     HALL_REFUSED_NOT_YET = 39,    /* a member has not received it, the label is not safe, or the
                                      entry is not known */
-    HALL_REFUSED_FULL = 40        /* a list, the sequence number or the summary's place is full,
+    HALL_REFUSED_FULL = 40,       /* a list, the sequence number or the summary's place is full,
                                      or the new label exists already */
+    HALL_REFUSED_NOT_PRIMARY = 42 /* settling: no view is formed, or the one with the greatest
+                                     number is not primary; given directly after 31 */
 };
 
 /*
@@ -220,6 +235,24 @@ uint32_t hall_step(uint8_t *hall, size_t hall_len, uint32_t k, uint32_t r, uint3
                    uint8_t *answer, size_t answer_len);
 
 /*
+ * Settles the hall: takes all steps that complete the log in the view with the
+ * greatest number, and writes their count into the first HALL_ANSWER_LENGTH
+ * bytes of `answer`. At each turn it takes the first action that is not refused,
+ * in the order of kinds 6, 4, 3, 2, 7, 8, 9, 10, 11, under each kind the members
+ * of the view from the lowest on, and only in that view; it ends when none is
+ * left. The hall is then the one after these steps, and a second settle takes
+ * none. A 40 that comes before an allowed action, or where none is allowed,
+ * refuses the settle as a whole: the steps before it are not kept either.
+ *
+ * On a hall reached from opening 40 never comes, and every entry submitted at a
+ * member of the view is then delivered at all members.
+ *
+ * Returns HALL_OK; 31, also if hall_len is below HALL_LENGTH; 42; 40; or 18 if
+ * the hall can be settled and answer_len is below HALL_ANSWER_LENGTH.
+ */
+uint32_t hall_settle(uint8_t *hall, size_t hall_len, uint8_t *answer, size_t answer_len);
+
+/*
  * Writes the page of recorder r into the first HALL_ANSWER_LENGTH bytes of
  * `page`, with the label and value at a place of its order, counted from 1.
  * Place 0 asks for none.
@@ -246,7 +279,8 @@ static inline int32_t hall_signed(const uint8_t *words, size_t i)
 }
 
 /*
- * Run files: an opening, and the actions of a run (docs/run-files.md).
+ * Run files: an opening, and the actions of a run (docs/run-files.md). A settle
+ * has no place of its own there: it stands as its steps.
  *
  * A run file is bytes that the caller owns and lends. The three calls keep to
  * what is said of all calls above; an answer is again words in a slice of at

@@ -2,8 +2,8 @@
  * Opens a hall, takes the steps of the bench card "the listing" and reads
  * pages, and checks every value that comes back. Goes through views with great
  * numbers. Reads the margins of opened halls, with the built-in row and with
- * votes. Writes and reads run files, with votes and without. Then refused calls,
- * each of which must leave all lent bytes as they were.
+ * votes. Settles halls. Writes and reads run files, with votes and without. Then
+ * refused calls, each of which must leave all lent bytes as they were.
  *
  * Each lent slice is allocated by itself with just the length that is lent, so
  * that a memory checker sees any access outside it.
@@ -413,6 +413,182 @@ static void stored_votes(void)
     free(hall);
 }
 
+/* Whether a settle takes so many steps. */
+static int settle_gives(uint8_t *hall, uint32_t steps)
+{
+    const uint32_t words[] = {steps};
+    uint8_t *answer = filled(HALL_ANSWER_LENGTH, 0xa5);
+    uint32_t number = hall_settle(hall, HALL_LENGTH, answer, HALL_ANSWER_LENGTH);
+    int ok = number == 0 && words_are(answer, 0, words, 1);
+    free(answer);
+    return ok;
+}
+
+/* Whether a settle is refused with a number and leaves hall and answer. */
+static int settle_refused(uint8_t *hall, size_t hall_len, size_t answer_len, uint32_t wanted)
+{
+    uint8_t *before = filled(hall_len, 0);
+    uint8_t *answer = filled(answer_len, 0xa5);
+    memcpy(before, hall, hall_len);
+    uint32_t number = hall_settle(hall, hall_len, answer, answer_len);
+    int ok = number == wanted && memcmp(before, hall, hall_len) == 0 && holds_only(answer, 0, answer_len, 0xa5);
+    free(answer);
+    free(before);
+    return ok;
+}
+
+/* A hall just opened for n founders, with so many entries at the recorders in
+ * turn. */
+static uint8_t *hall_with(uint32_t n, uint32_t entries)
+{
+    uint8_t *hall = filled(HALL_LENGTH, 0x5a);
+    CHECK(hall_open_built_in(hall, HALL_LENGTH, n, (1u << n) - 1) == 0);
+    for (uint32_t i = 0; i < entries; i++) {
+        CHECK(step_is_done(hall, HALL_SUBMIT, i % n + 1, 700 + i));
+    }
+    return hall;
+}
+
+/* Whether so many entries are delivered at recorder r. */
+static int delivered_are(const uint8_t *hall, uint32_t r, uint32_t wanted)
+{
+    uint8_t *page = filled(HALL_ANSWER_LENGTH, 0xa5);
+    int ok = hall_page(hall, HALL_LENGTH, r, 0, page, HALL_ANSWER_LENGTH) == 0 &&
+             hall_word(page, HALL_PAGE_REPORT) == wanted + 1;
+    free(page);
+    return ok;
+}
+
+/* Whether such a hall is settled in so many steps, and a second time in none, if
+ * view 2 is formed with a set before, 0 for no view 2. So many entries are then
+ * delivered at each member, and none elsewhere. */
+static int settles(uint32_t n, uint32_t entries, uint32_t set, uint32_t steps, uint32_t delivered)
+{
+    uint8_t *hall = hall_with(n, entries);
+    int ok = (set == 0 || view_is_formed(hall, 2, set)) && settle_gives(hall, steps) && settle_gives(hall, 0);
+    for (uint32_t r = 1; r <= n; r++) {
+        int is_member = set == 0 || (set >> (r - 1) & 1) != 0;
+        ok = ok && delivered_are(hall, r, is_member ? delivered : 0);
+    }
+    free(hall);
+    return ok;
+}
+
+/* A view 2 here is entered by nobody before. */
+static void settled_halls(void)
+{
+    CHECK(settles(1, 1, 0, 7, 1));
+    CHECK(settles(3, 3, 0, 45, 3));
+    CHECK(settles(3, 3, 3, 36, 2));
+    CHECK(settles(3, 0, 7, 27, 0));
+    CHECK(settles(3, 0, 0, 0, 0));
+    CHECK(settles(8, 64, 255, HALL_MAX_SETTLE_STEPS, 64));
+    CHECK(settles(8, 64, 0, 2240, 64));
+}
+
+/* A settle leaves the bytes that its steps leave one by one. */
+static void steps_of_a_settle(void)
+{
+    const uint32_t entry[] = {HALL_CASE_ENTRY, 1, 1, 1, 1, 700};
+    const uint32_t from[] = {HALL_CASE_FROM, 1, 700};
+    uint8_t *settled = hall_with(1, 1);
+    uint8_t *stepped = hall_with(1, 1);
+
+    CHECK(settle_gives(settled, 7));
+    CHECK(step_is_done(stepped, HALL_LABEL, 1, 0));
+    CHECK(step_is_done(stepped, HALL_SEND_ENTRY, 1, 0));
+    CHECK(step_is_done(stepped, HALL_PLACE, 1, 1));
+    CHECK(step_gives(stepped, HALL_RECEIVE, 1, 0, entry, 6));
+    CHECK(step_gives(stepped, HALL_SAFE, 1, 0, entry, 6));
+    CHECK(step_is_done(stepped, HALL_CONFIRM, 1, 0));
+    CHECK(step_gives(stepped, HALL_DELIVER, 1, 0, from, 3));
+    CHECK(memcmp(settled, stepped, HALL_LENGTH) == 0);
+    free(stepped);
+    free(settled);
+}
+
+/* Where fields of a stored hall begin (docs/stored-form.md). */
+enum {
+    STORED_VIEW_COUNT = 1,
+    STORED_VIEWS = 2,
+    STORED_CURRENT = 803, /* of recorder 1, as the next */
+    STORED_NEXT_SEQ = 803 + 5
+};
+
+/* 42: {2, 3} is not primary, as the founders or as the view with the greatest
+ * number, whatever the views before it are; and a hall without a view. */
+static void settles_not_primary(void)
+{
+    uint8_t *hall = hall_with(3, 3);
+
+    CHECK(view_is_formed(hall, 2, 3));
+    CHECK(view_is_formed(hall, 3, 6));
+    CHECK(settle_refused(hall, HALL_LENGTH, HALL_ANSWER_LENGTH, HALL_REFUSED_NOT_PRIMARY));
+    CHECK(settle_refused(hall, HALL_LENGTH, 0, HALL_REFUSED_NOT_PRIMARY));
+    CHECK(view_is_formed(hall, 4, 5));
+    CHECK(settle_gives(hall, 36));
+    CHECK(hall_open_built_in(hall, HALL_LENGTH, 3, 6) == 0);
+    CHECK(settle_refused(hall, HALL_LENGTH, HALL_ANSWER_LENGTH, HALL_REFUSED_NOT_PRIMARY));
+    CHECK(hall_open_row(hall, HALL_LENGTH, 3, 6, site) == 0);
+    CHECK(settle_gives(hall, 0));
+    CHECK(hall_open_built_in(hall, HALL_LENGTH, 1, 1) == 0);
+    memset(hall + STORED_VIEWS, 0, 5);
+    memset(hall + STORED_CURRENT, 0, 4);
+    hall[STORED_VIEW_COUNT] = 0;
+    CHECK(settle_refused(hall, HALL_LENGTH, HALL_ANSWER_LENGTH, HALL_REFUSED_NOT_PRIMARY));
+    free(hall);
+}
+
+/* 40, in halls that no run reaches: recorder 1 has no further label. It comes
+ * where no action is allowed; and after steps, which are not kept, before an
+ * action that is allowed at recorder 2. 42 comes before it: of three recorders
+ * {1} is not primary. */
+static void settles_full(void)
+{
+    uint8_t *alone = hall_with(1, 1);
+    uint8_t *hall = hall_with(2, 3);
+
+    alone[STORED_NEXT_SEQ] = HALL_MAX_SEQ;
+    CHECK(settle_refused(alone, HALL_LENGTH, HALL_ANSWER_LENGTH, HALL_REFUSED_FULL));
+
+    CHECK(step_is_done(hall, HALL_LABEL, 1, 0));
+    hall[STORED_NEXT_SEQ] = HALL_MAX_SEQ;
+    CHECK(step_refused(hall, HALL_LABEL, 1, 0, 0, HALL_REFUSED_FULL));
+    CHECK(settle_refused(hall, HALL_LENGTH, HALL_ANSWER_LENGTH, HALL_REFUSED_FULL));
+    CHECK(settle_refused(hall, HALL_LENGTH, HALL_ANSWER_LENGTH - 1, HALL_REFUSED_FULL));
+
+    CHECK(hall_open_built_in(alone, HALL_LENGTH, 3, 1) == 0);
+    CHECK(step_is_done(alone, HALL_SUBMIT, 1, 700));
+    alone[STORED_NEXT_SEQ] = HALL_MAX_SEQ;
+    CHECK(settle_refused(alone, HALL_LENGTH, HALL_ANSWER_LENGTH, HALL_REFUSED_NOT_PRIMARY));
+    free(hall);
+    free(alone);
+}
+
+/* 31 first and 18 last. */
+static void refused_settles(void)
+{
+    uint8_t *hall = filled(HALL_LENGTH, 0x5a);
+    uint8_t *shorter = filled(HALL_LENGTH - 1, 0);
+    uint8_t *none = filled(0, 0);
+
+    CHECK(settle_refused(hall, HALL_LENGTH, 0, HALL_REFUSED_BYTES));
+    CHECK(settle_refused(none, 0, HALL_ANSWER_LENGTH, HALL_REFUSED_BYTES));
+    CHECK(hall_open_built_in(hall, HALL_LENGTH, 3, 7) == 0);
+    memcpy(shorter, hall, HALL_LENGTH - 1);
+    CHECK(settle_refused(shorter, HALL_LENGTH - 1, HALL_ANSWER_LENGTH, HALL_REFUSED_BYTES));
+    CHECK(step_is_done(hall, HALL_SUBMIT, 1, 5));
+    CHECK(settle_refused(hall, HALL_LENGTH, HALL_ANSWER_LENGTH - 1, HALL_REFUSED_SHORT));
+    CHECK(settle_refused(hall, HALL_LENGTH, 0, HALL_REFUSED_SHORT));
+    CHECK(settle_gives(hall, 15));
+    CHECK(hall_open_built_in(hall, HALL_LENGTH, 3, 6) == 0);
+    hall[HALL_LENGTH - 1] = 1;
+    CHECK(settle_refused(hall, HALL_LENGTH, HALL_ANSWER_LENGTH, HALL_REFUSED_BYTES));
+    free(none);
+    free(shorter);
+    free(hall);
+}
+
 /* Words of either sign, at both ends of their range. */
 static void signed_words(void)
 {
@@ -479,12 +655,15 @@ static void longer_slices(void)
 {
     const size_t rest = 1000;
     const uint32_t done[] = {HALL_CASE_DONE};
+    const uint32_t steps[] = {11};
     uint8_t *hall = filled(HALL_LENGTH + rest, 0xa5);
     uint8_t *answer = filled(HALL_ANSWER_LENGTH + rest, 0xa5);
 
     CHECK(hall_open_built_in(hall, HALL_LENGTH + rest, 2, 0) == 0);
     CHECK(hall_step(hall, HALL_LENGTH + rest, HALL_SUBMIT, 2, 5, 0, answer, HALL_ANSWER_LENGTH + rest) == 0);
     CHECK(words_are(answer, rest, done, 1));
+    CHECK(hall_settle(hall, HALL_LENGTH + rest, answer, HALL_ANSWER_LENGTH + rest) == 0);
+    CHECK(words_are(answer, rest, steps, 1));
     CHECK(holds_only(hall, HALL_LENGTH, HALL_LENGTH + rest, 0xa5));
     free(answer);
     free(hall);
@@ -784,6 +963,11 @@ int main(void)
     built_in_votes();
     refused_votes();
     stored_votes();
+    settled_halls();
+    steps_of_a_settle();
+    settles_not_primary();
+    settles_full();
+    refused_settles();
     signed_words();
     refused_calls();
     longer_slices();

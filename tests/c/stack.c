@@ -1,9 +1,10 @@
 /*
  * Measures how many bytes of stack each call takes: it runs in a thread whose
- * stack is painted before the call and looked at afterwards. None takes more than
- * HALL_STACK, and only one 4,096 or more: the last summary of an exchange that
- * leaves all entries to be put into order, one level of recursion for each.
- * Prints the most that each kind of call took.
+ * stack is painted before the call and looked at afterwards. A settle takes at
+ * most HALL_SETTLE_STACK. No other call takes more than HALL_STACK, and only one
+ * 4,096 or more: the last summary of an exchange that leaves all entries to be
+ * put into order, one level of recursion for each. Prints the most that each kind
+ * of call took.
  *
  * The last line is 'N passed, M failed'.
  */
@@ -17,15 +18,17 @@
 
 enum { AREA = 1 << 20, PAINT = 0xa5, MARGIN = 256 };
 
-/* What a call may take: the step that puts entries into order, and any other. */
-enum { ORDERING = HALL_STACK, SMALL = 4095 };
+/* What a call may take: a settle, the step that puts entries into order, and any
+ * other. */
+enum { SETTLING = HALL_SETTLE_STACK, ORDERING = HALL_STACK, SMALL = 4095 };
 
 static uint8_t hall[HALL_LENGTH];
 static uint8_t answer[HALL_ANSWER_LENGTH];
 static uint8_t file[HALL_MAX_FILE];
 static uint32_t actions[4 * HALL_MAX_ACTIONS];
 
-/* The words of the step to take, the room for its answer, and its number. */
+/* The words of the step to take, the room for its answer or for that of a settle,
+ * and the number that came back. */
 static uint32_t words[4];
 static size_t room;
 static uint32_t number;
@@ -38,6 +41,11 @@ static void open_hall(void)
 static void take_step(void)
 {
     number = hall_step(hall, sizeof hall, words[0], words[1], words[2], words[3], answer, room);
+}
+
+static void settle_hall(void)
+{
+    number = hall_settle(hall, sizeof hall, answer, room);
 }
 
 static void read_page(void)
@@ -149,6 +157,8 @@ static struct peak peaks[] = {
     {"9 notice of the summary", 0},
     {"10 confirm", 0},
     {"11 deliver", 0},
+    {"settle, the longest", 0},
+    {"settle, with all entries to be ordered", 0},
     {"page of a full order", 0},
     {"write a run", 0},
     {"read a run", 0},
@@ -175,15 +185,10 @@ static void keep_peak(const char *name, size_t bytes)
 
 static void print_peaks(void)
 {
-    size_t most = 0;
     puts("bytes of stack, at most:");
     for (size_t i = 0; i < PEAKS; i++) {
         printf("%7lu %s\n", (unsigned long)peaks[i].bytes, peaks[i].name);
-        if (peaks[i].bytes > most) {
-            most = peaks[i].bytes;
-        }
     }
-    printf("at most %lu bytes of stack\n", (unsigned long)most);
 }
 
 /* Makes a call, which gives the wanted number and takes no more stack than it
@@ -200,16 +205,21 @@ static void measure(const char *name, void (*function)(void), uint32_t wanted, s
     }
 }
 
-/* A step, first without room for its answer, which is the last reason to refuse
- * it. */
+/* A call with an answer, first without room for it, which is the last reason to
+ * refuse it. */
+static void answered_within(size_t limit, const char *name, void (*function)(void))
+{
+    room = 0;
+    measure(name, function, HALL_REFUSED_SHORT, limit);
+    room = sizeof answer;
+    measure(name, function, HALL_OK, limit);
+}
+
 static void step_within(size_t limit, const char *name, uint32_t k, uint32_t r, uint32_t a, uint32_t b)
 {
     const uint32_t given[4] = {k, r, a, b};
     memcpy(words, given, sizeof words);
-    room = 0;
-    measure(name, take_step, HALL_REFUSED_SHORT, limit);
-    room = sizeof answer;
-    measure(name, take_step, HALL_OK, limit);
+    answered_within(limit, name, take_step);
 }
 
 static void step(const char *name, uint32_t k, uint32_t r, uint32_t a, uint32_t b)
@@ -230,13 +240,20 @@ static void one_entry(void)
     step("11 deliver", HALL_DELIVER, 1, 0, 0);
 }
 
-/* All entries are known and none is in the order: a new view puts them there. */
-static void longest_order(void)
+/* In a hall of one recorder all entries are known and none is in the order. */
+static void all_labelled(void)
 {
+    measure("open", open_hall, HALL_OK, SMALL);
     for (uint32_t i = 1; i <= HALL_MAX_ENTRIES; i++) {
         step("1 submit", HALL_SUBMIT, 1, i, 0);
         step("2 label", HALL_LABEL, 1, 0, 0);
     }
+}
+
+/* A new view puts them there. */
+static void longest_order(void)
+{
+    all_labelled();
     step("3 send an entry", HALL_SEND_ENTRY, 1, 0, 0);
     step("5 form", HALL_FORM, 0, 2, 1);
     step("6 enter", HALL_ENTER, 1, 2, 0);
@@ -248,14 +265,34 @@ static void longest_order(void)
     step("11 deliver", HALL_DELIVER, 1, 0, 0);
 }
 
+/* The same in a settle. */
+static void settled_order(void)
+{
+    all_labelled();
+    step("5 form", HALL_FORM, 0, 2, 1);
+    answered_within(SETTLING, "settle, with all entries to be ordered", settle_hall);
+}
+
+/* The most steps: all entries wait, and nobody has entered the new view. */
+static void longest_settle(void)
+{
+    measure("open with votes", open_row, HALL_OK, SMALL);
+    for (uint32_t i = 0; i < HALL_MAX_ENTRIES; i++) {
+        step("1 submit", HALL_SUBMIT, i % 8 + 1, i, 0);
+    }
+    step("5 form", HALL_FORM, 0, 2, 255);
+    answered_within(SETTLING, "settle, the longest", settle_hall);
+}
+
 int main(void)
 {
     measure("open with votes", open_row, HALL_OK, SMALL);
     measure("open", open_hall, HALL_OK, SMALL);
     one_entry();
-    measure("open", open_hall, HALL_OK, SMALL);
     longest_order();
     measure("page of a full order", read_page, HALL_OK, SMALL);
+    settled_order();
+    longest_settle();
     measure("write a run", write_run, HALL_OK, SMALL);
     measure("read a run", read_run, HALL_OK, SMALL);
     measure("write a run with votes", write_votes, HALL_OK, SMALL);

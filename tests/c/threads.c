@@ -1,7 +1,8 @@
 /*
- * Makes calls in threads with small stacks: steps of all kinds in 20,480 bytes,
- * and in 65,536 the deepest step, the last summary of an exchange that leaves
- * all entries to be put into order.
+ * Makes calls in threads with small stacks: steps of all kinds in 20,480 bytes;
+ * in 65,536 the deepest step, the last summary of an exchange that leaves all
+ * entries to be put into order; and in HALL_SETTLE_STACK and what a thread needs
+ * the longest settle, and one with that deepest step in it.
  *
  * Each thread runs in a process of its own, and below its stack lies memory
  * that cannot be touched: a stack that is too small ends that process by a
@@ -21,6 +22,9 @@
 #include <unistd.h>
 
 enum { GUARD = 1 << 20, PAINT = 0xa5 };
+
+/* A stack for a settle, with 12,288 bytes for the thread itself. */
+enum { SETTLING = HALL_SETTLE_STACK + 12288 };
 
 static uint8_t hall[HALL_LENGTH];
 static uint8_t answer[HALL_ANSWER_LENGTH];
@@ -64,16 +68,21 @@ static uint32_t take_all_kinds(void)
     return refused;
 }
 
-/* All entries are known and none is in the order: the summary that is received
- * next puts them there. */
-static uint32_t prepare_longest_order(void)
+/* All entries are known and none is in the order, and a new view is formed. */
+static uint32_t prepare_new_view(void)
 {
     uint32_t refused = hall_open_built_in(hall, sizeof hall, 1, 1);
     for (uint32_t i = 1; i <= HALL_MAX_ENTRIES; i++) {
         refused |= step(HALL_SUBMIT, 1, i, 0);
         refused |= step(HALL_LABEL, 1, 0, 0);
     }
-    refused |= step(HALL_FORM, 0, 2, 1);
+    return refused | step(HALL_FORM, 0, 2, 1);
+}
+
+/* The summary that is received next puts all entries into order. */
+static uint32_t prepare_longest_order(void)
+{
+    uint32_t refused = prepare_new_view();
     refused |= step(HALL_ENTER, 1, 2, 0);
     refused |= step(HALL_SEND_SUMMARY, 1, 0, 0);
     return refused | step(HALL_PLACE, 1, 2, 0);
@@ -87,6 +96,26 @@ static uint32_t take_longest_order(void)
 static int is_longest_order(void)
 {
     return hall_page(hall, sizeof hall, 1, HALL_MAX_ORDER, answer, sizeof answer) == HALL_OK;
+}
+
+/* All entries wait, and nobody has entered the new view. */
+static uint32_t prepare_longest_settle(void)
+{
+    uint32_t refused = hall_open_built_in(hall, sizeof hall, 8, 0);
+    for (uint32_t i = 0; i < HALL_MAX_ENTRIES; i++) {
+        refused |= step(HALL_SUBMIT, i % 8 + 1, i, 0);
+    }
+    return refused | step(HALL_FORM, 0, 2, 255);
+}
+
+static uint32_t take_settle(void)
+{
+    return hall_settle(hall, sizeof hall, answer, sizeof answer);
+}
+
+static int is_longest_settle(void)
+{
+    return hall_word(answer, HALL_SETTLE_COUNT) == HALL_MAX_SETTLE_STEPS;
 }
 
 struct calls {
@@ -172,14 +201,24 @@ static uint32_t take_nothing(void)
     return HALL_OK;
 }
 
+/* Makes the hall for the next test. */
+static void prepare(uint32_t (*take)(void))
+{
+    if (take() != HALL_OK) {
+        fail("a hall cannot be prepared");
+    }
+}
+
 int main(void)
 {
     test("no call", 20480, take_nothing, NULL);
     test("kinds 1 to 11", 20480, take_all_kinds, NULL);
-    if (prepare_longest_order() != HALL_OK) {
-        fail("the longest order cannot be prepared");
-    }
+    prepare(prepare_longest_order);
     test("the longest order", 65536, take_longest_order, is_longest_order);
+    prepare(prepare_new_view);
+    test("the longest order in a settle", SETTLING, take_settle, is_longest_order);
+    prepare(prepare_longest_settle);
+    test("the longest settle", SETTLING, take_settle, is_longest_settle);
     printf("%u passed, %u failed\n", passed, failed);
     return failed != 0;
 }
