@@ -9,6 +9,7 @@ use reference::hall::{
     Entry, Label, Message, Phase, Queued, Recorder, Seat, Summary, View, MOST_VOTES,
 };
 use reference::runfile::MOST_ACTIONS;
+use reference::settle::turn_actions;
 use reference::stored::{self, LENGTH};
 use reference::{open_built_in, write_run_file, Answer, Hall, Opening};
 
@@ -114,17 +115,13 @@ impl Going {
     fn round(&mut self, view: u32) -> bool {
         let before = self.taken.len();
         for kind in [2, 3, 4, 7, 8, 9, 10, 11] {
+            let a = if kind == 7 { view } else { 0 };
             for r in 1..=8 {
-                self.goes(on_view(kind, r, view));
+                self.goes([kind, r, a, 0]);
             }
         }
         self.taken.len() > before
     }
-}
-
-/// The action of a kind at R; 6 and 7 name the view.
-fn on_view(kind: u32, r: u32, view: u32) -> [u32; 4] {
-    [kind, r, if matches!(kind, 6 | 7) { view } else { 0 }, 0]
 }
 
 /// A hall to be settled, and all actions that are tried on the way.
@@ -136,19 +133,14 @@ pub struct Settle {
 
 /// The longest settle of a hall reached from opening: 64 entries wait and all
 /// recorders have a new view before them. Each turn takes the first action that
-/// is not refused, in the order of kinds 6, 4, 3, 2, 7, 8, 9, 10, 11, lowest
-/// recorder first; it ends when none is left.
+/// is not refused; it ends when none is left.
 pub fn longest_settle() -> Settle {
-    const ORDER: [u32; 9] = [6, 4, 3, 2, 7, 8, 9, 10, 11];
     let mut going = Going::open();
     going.submit(64);
     going.must([5, 0, 2, 255]);
     let hall = going.hall.clone();
     let before = going.taken.len();
-    let turn: Vec<[u32; 4]> = ORDER
-        .iter()
-        .flat_map(|&kind| (1..=8).map(move |r| on_view(kind, r, 2)))
-        .collect();
+    let turn: Vec<[u32; 4]> = turn_actions(2, 255).collect();
     let mut tries = Vec::new();
     let mut found = true;
     while found {

@@ -99,8 +99,9 @@ fn main() {
     output.print(&times::steps(passes, &[three, eight]));
     if inner::LINKED {
         output.print(&times::inner_steps(passes, &runs));
-        output.print(&times::longest_settle(passes));
     }
+    output.print(&times::longest_settle(passes));
+    output.print(&times::settled_hall(passes));
     let [pages, checks] = times::pages_and_checks(passes, eight);
     output.print(&pages);
     output.print(&checks);

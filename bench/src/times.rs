@@ -123,14 +123,63 @@ pub fn inner_steps(passes: u32, runs: &[Run]) -> Table {
     table
 }
 
-/// All tries of the longest settle.
+/// Times the library's settle of a hall beside the second implementation's on a
+/// hall in memory. Both sides begin with a copy of that hall.
+fn compare_settle(table: &mut Table, name: String, start: &Hall) {
+    let bytes = stored::form(start);
+    let hall = RefCell::new(Lent::new(&bytes, LENGTH));
+    let mut answer = Lent::new(&[0; ANSWER_LENGTH], ANSWER_LENGTH);
+    let mut settle = || {
+        let mut hall = hall.borrow_mut();
+        hall.area_mut().copy_from_slice(&bytes);
+        library::settle(&mut hall, &mut answer)
+    };
+    let rust = || {
+        let mut hall = start.clone();
+        black_box(hall.settle()).expect("the hall settles");
+        hall
+    };
+    assert_eq!(settle(), 0);
+    assert_eq!(
+        hall.borrow().area(),
+        stored::form(&rust()),
+        "the last bytes differ"
+    );
+    table.compare(name, 1, settle, rust);
+}
+
+/// All tries of the longest settle: as steps without a check, and in its call.
 pub fn longest_settle(passes: u32) -> Table {
     let heading = "Longest settle: milliseconds for all tries";
     let mut table = Table::new(heading, Unit::Milliseconds, passes);
     let settle = inputs::longest_settle();
     let (tries, taken) = (settle.tries.len(), settle.taken);
-    let name = format!("settle, {tries} tries, {taken} taken: step in memory");
-    compare_inner(&mut table, name, 1, &settle.hall, &settle.tries);
+    if inner::LINKED {
+        let name = format!("settle, {tries} tries, {taken} taken: step in memory");
+        compare_inner(&mut table, name, 1, &settle.hall, &settle.tries);
+    }
+    let name = format!("settle call, {taken} steps: settle in memory");
+    compare_settle(&mut table, name, &settle.hall);
+    table
+}
+
+/// Settles of a full hall in which nothing is left to do.
+pub fn settled_hall(passes: u32) -> Table {
+    let mut table = Table::new("Settle: microseconds a call", Unit::Microseconds, passes);
+    let mut hall = inputs::longest_settle().hall;
+    hall.settle().expect("the hall settles");
+    let mut bytes = stored::form(&hall);
+    let mut lent = Lent::new(&bytes, LENGTH);
+    let mut answer = Lent::new(&[0; ANSWER_LENGTH], ANSWER_LENGTH);
+    let mut settle = || library::settle(&mut lent, &mut answer);
+    let mut rust = || calls::settle(&mut bytes, &mut [0; ANSWER_LENGTH]);
+    assert_eq!((settle(), rust()), (0, 0));
+    table.compare(
+        "settle, a settled hall: read, settle, write".to_string(),
+        HALLS,
+        || (0..HALLS).map(|_| settle()).sum::<u32>(),
+        || (0..HALLS).map(|_| rust()).sum::<u32>(),
+    );
     table
 }
 
