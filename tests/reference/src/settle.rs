@@ -20,7 +20,7 @@ pub const KINDS: [u32; 9] = [
     DELIVER,
 ];
 
-/// The most steps that a settle of a hall reached from opening takes.
+/// The most steps that a settle takes.
 pub const MOST_STEPS: usize = 2_392;
 
 impl Hall {
