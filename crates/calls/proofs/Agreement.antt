@@ -39,13 +39,13 @@ use Rattle.calls.proofs.Runs.{Performs, Turned, Sound, sound-agree}
 
 -- ## Calls of the definition
 
-made-sound : (b : List ℕ) (ws : List Words) → Sound b (madeOn b ws) (runOn b ws)
+pub made-sound : (b : List ℕ) (ws : List Words) → Sound b (madeOn b ws) (runOn b ws)
 unfolding madeOn runOn
 made-sound b [] = refl
 made-sound b (w ∷ ws) =
     (inl (record { before = refl; taken = refl; after = refl; answer = λ h rest v e k t. refl }), made-sound (stepOn b w .bytes) ws)
 
-made-words : (b : List ℕ) (ws : List Words) → map (λ (m : Made). m .words) (madeOn b ws) ≡ ws
+pub made-words : (b : List ℕ) (ws : List Words) → map (λ (m : Made). m .words) (madeOn b ws) ≡ ws
 unfolding madeOn
 made-words b [] = refl
 made-words b (w ∷ ws) = ap (λ (l : List Words). w ∷ l) (made-words (stepOn b w .bytes) ws)
@@ -78,7 +78,7 @@ settle-made-sound b c e = subst (Sound b (settleMade b)) (sym e) (made-sound b (
 
 -- ## Calls of `open`, `step` and `settle`
 
-steps-sound : (b : List ℕ) (cs : List HallCall) → StepsMet b cs → Sound b (stepsMade b cs) (stepsLeft b cs)
+pub steps-sound : (b : List ℕ) (cs : List HallCall) → StepsMet b cs → Sound b (stepsMade b cs) (stepsLeft b cs)
 unfolding stepsMade stepsLeft
 steps-sound b [] met = refl
 steps-sound b (steps c ∷ cs) met = (
@@ -94,7 +94,7 @@ steps-sound b (settles c ∷ cs) met =
     sound-append b (settleMade b) (c .bytes) (stepsMade (c .bytes) cs) (stepsLeft (c .bytes) cs)
     (settle-made-sound b (c .bytes) (met .0 .bytes)) (steps-sound (c .bytes) cs (met .1))
 
-steps-words : (b : List ℕ) (cs : List HallCall) → WordsIn (stepWords cs) → WordsIn (map (λ (m : Made). m .words) (stepsMade b cs))
+pub steps-words : (b : List ℕ) (cs : List HallCall) → WordsIn (stepWords cs) → WordsIn (map (λ (m : Made). m .words) (stepsMade b cs))
 unfolding stepsMade stepWords
 steps-words b [] low = tt
 steps-words b (steps c ∷ cs) low = (low .0, steps-words (c .bytes) cs (low .1))
@@ -210,7 +210,7 @@ module _ (b : List ℕ) (c : LentSettle) (met : Leaves (settleLent b (c .out)) (
       go true = settle-made-words b
       go false = tt
 
-lents-sound : (b : List ℕ) (cs : List LentCall) → LentMet b cs → Sound b (lentMade b cs) (lentLeft b cs)
+pub lents-sound : (b : List ℕ) (cs : List LentCall) → LentMet b cs → Sound b (lentMade b cs) (lentLeft b cs)
 unfolding lentMade lentLeft
 lents-sound b [] met = refl
 lents-sound b (LentCall.steps c ∷ cs) met = (lent-sound b c (met .0), lents-sound (c .hall) cs (met .1))
@@ -218,7 +218,7 @@ lents-sound b (LentCall.settles c ∷ cs) met =
     sound-append b (settleSteps b c (met .0)) (c .hall) (lentMade (c .hall) cs) (lentLeft (c .hall) cs)
     (lent-settle-sound b c (met .0)) (lents-sound (c .hall) cs (met .1))
 
-lents-words : (b : List ℕ) (cs : List LentCall) → LentMet b cs → WordsIn (lentWords cs) → WordsIn (map (λ (m : Made). m .words) (lentMade b cs))
+pub lents-words : (b : List ℕ) (cs : List LentCall) → LentMet b cs → WordsIn (lentWords cs) → WordsIn (map (λ (m : Made). m .words) (lentMade b cs))
 unfolding lentMade lentWords
 lents-words b [] met low = tt
 lents-words b (LentCall.steps c ∷ cs) met low = (low .0, lents-words (c .hall) cs (met .1) (low .1))

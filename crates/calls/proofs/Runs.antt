@@ -1,7 +1,7 @@
 -- Calls that were made, one after another, as a run of the model: each is the definition's step, or is turned down and
 -- changes nothing. Assumes nothing.
 use Prim.Native.Nat.{ℕ, _^_, _<_}
-use mathlib.Core.Path.{_≡_, refl, sym, ap, _∙_, subst, fun-ext}
+use mathlib.Core.Path.{_≡_, refl, sym, ap, ap₂, _∙_, subst, fun-ext}
 use mathlib.Core.Logic.{_⊎_, ⊎-elim}
 use mathlib.Core.Bool.{Bool, true, false, _&&_}
 use mathlib.Core.List.{List, [], _∷_, _++_, map}
@@ -9,6 +9,7 @@ use lib.Dec.{eqb}
 use borrow.Author.Tests.{eqb-true}
 use lib.ListN.{drop}
 use Rattle.base.proofs.Bools.{and-both}
+use Rattle.base.proofs.ListsLaws.{each-append}
 use Rattle.model.specs.Hall.{Hall}
 use Rattle.model.specs.Answers.{accepted}
 use Rattle.model.specs.Actions.{Outcome, payloadOf}
@@ -17,13 +18,14 @@ use Rattle.model.specs.Call.{Words, WordsIn, hl3, step}
 use Rattle.model.specs.Run.{run, accepts, collect, firstWaiting, atReport, itemsFrom, submitted, labelledAt, delivered, deliverAnswers, History, history}
 use Rattle.model.specs.Agreed.{Agreed}
 use Rattle.model.proofs.Agreement.Theorem.{hl3-agreement}
+use Rattle.model.proofs.Settling.SettleRun.{run-append}
 use Rattle.store.specs.Layout.{storedLength}
 use Rattle.store.specs.Valid.{ValidHall}
 use Rattle.store.specs.StoredForm.{stored, hallOf}
 use Rattle.store.proofs.StoredFormLaws.{hallOf-stored}
 use Rattle.store.proofs.KeepValid.{step-valid, run-valid, open-valid}
 use Rattle.calls.specs.Calls.{withHall, stepOn, openOn, runOn}
-use Rattle.calls.specs.Histories.{Made, gathered, historyOf, madeOn, historyOn}
+use Rattle.calls.specs.Histories.{Made, gathered, historyOf, madeOn}
 use Rattle.calls.proofs.OpenLaws.{open-done}
 use Rattle.calls.proofs.RunLaw.{step-stored}
 
@@ -123,6 +125,49 @@ run-of h rest (m ∷ ms) c v low s =
     (λ p. one-turned h rest m ms c p (run-of h rest ms c v (low .1) (subst (λ (x : List ℕ). Sound x ms c) (p .after) (s .1))))
     (s .0)
 
+-- ## Calls, and others after them
+
+gathered-append : {A : Type 0} (k r : ℕ) (f : Made → A) (ms ns : List Made) → gathered k r f (ms ++ ns) ≡ gathered k r f ms ++ gathered k r f ns
+unfolding gathered pick
+gathered-append k r f [] ns = refl
+gathered-append {A} k r f (m ∷ ms) ns = go (eqb (m .words .k) k && (eqb (m .words .r) r && m .taken)) (gathered-append k r f ms ns)
+  where
+    go : (t : Bool) → gathered k r f (ms ++ ns) ≡ gathered k r f ms ++ gathered k r f ns
+        → pick t (f m) (gathered k r f (ms ++ ns)) ≡ pick t (f m) (gathered k r f ms) ++ gathered k r f ns
+    go true e = ap (λ (l : List A). f m ∷ l) e
+    go false e = e
+
+collect-append : {A : Type 0} (k r : ℕ) (g : Hall → Words → A) (h : Hall) (xs ys : List Words)
+    → collect hl3 k r g h (xs ++ ys) ≡ collect hl3 k r g h xs ++ collect hl3 k r g (run hl3 h xs) ys
+unfolding collect run pick
+collect-append k r g h [] ys = refl
+collect-append {A} k r g h (w ∷ xs) ys = go (accepts hl3 h w k r) (collect-append k r g next xs ys)
+  where
+    next : Hall
+    next = step hl3 h w .hall
+
+    go : (t : Bool) → collect hl3 k r g next (xs ++ ys) ≡ collect hl3 k r g next xs ++ collect hl3 k r g (run hl3 next xs) ys
+        → pick t (g h w) (collect hl3 k r g next (xs ++ ys)) ≡ pick t (g h w) (collect hl3 k r g next xs) ++ collect hl3 k r g (run hl3 next xs) ys
+    go true e = ap (λ (l : List A). g h w ∷ l) e
+    go false e = e
+
+pub run-then : (h : Hall) (rest : List ℕ) (ms : List Made) (c : List ℕ) (ns : List Made) (d : List ℕ) → (one : RunOf h rest ms c)
+    → RunOf (run hl3 h (one .words)) rest ns d → RunOf h rest (ms ++ ns) d
+run-then h rest ms c ns d one two =
+    record {
+      words = one .words ++ two .words;
+      inRange = each-append (λ (w : Words). w .a < 2 ^ 32) (one .words) (two .words) (one .inRange) (two .inRange);
+      bytes = two .bytes ∙ ap (λ (x : Hall). stored x ++ rest) (sym (run-append hl3 h (one .words) (two .words)));
+      lists = λ k r f g same.
+          gathered-append k r f ms ns ∙ ap₂ _++_ (one .lists k r f g same) (two .lists k r f g same)
+          ∙ sym (collect-append k r g h (one .words) (two .words));
+    }
+
+pub then-words : (h : Hall) (rest : List ℕ) (ms : List Made) (c : List ℕ) (ns : List Made) (d : List ℕ) (one : RunOf h rest ms c)
+    (two : RunOf (run hl3 h (one .words)) rest ns d) → run-then h rest ms c ns d one two .words ≡ one .words ++ two .words
+unfolding run-then
+then-words h rest ms c ns d one two = refl
+
 -- ## What such calls leave is what the run of the performed ones leaves
 
 module _ (h₀ : Hall) (rest : List ℕ) (valid : ValidHall h₀) (ms : List Made) (c : List ℕ) (found : RunOf h₀ rest ms c) where
@@ -169,18 +214,6 @@ made-run h rest (w ∷ ws) v low =
           (later .found);
       same = ap (λ (l : List Words). w ∷ l) (later .same);
     }
-
--- so they leave the lists of the model's run
-pub history-on : (b : List ℕ) (o : Opening) → openOn b o .number ≡ 0 → (ws : List Words) → WordsIn ws
-    → history hl3 (opened o) ws ≡ historyOn (openOn b o .bytes) ws
-unfolding withHall
-history-on b o t ws low =
-    let done = open-done b o t in
-    let rest = drop storedLength b in
-    let valid = open-valid o (done .0) in
-    let made = subst (MadeRun (opened o) rest ws) (sym (done .1)) (made-run (opened o) rest ws valid low) in
-    let c = openOn b o .bytes in
-    ap (history hl3 (opened o)) (sym (made .same)) ∙ history-of (opened o) rest valid (madeOn c ws) (runOn c ws) (made .found)
 
 -- ## Demand 3 of such calls
 

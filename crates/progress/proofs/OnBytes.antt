@@ -5,28 +5,29 @@ use native.Mathlib.Omega.{arith}
 use mathlib.Core.Path.{_≡_, refl, sym, ap, _∙_, subst, subst₂}
 use mathlib.Core.Logic.{_⊎_, inl, inr}
 use mathlib.Core.Bool.{Bool, true, false}
-use mathlib.Core.List.{List, [], _∷_, _++_}
+use mathlib.Core.List.{List, _++_, map}
 use lib.ListN.{length, drop}
 use Rattle.base.proofs.Bools.{by-cases}
 use Rattle.model.specs.Hall.{Hall}
 use Rattle.model.specs.Answers.{Plain}
 use Rattle.model.specs.Opening.{Opening, openRefusal, opened}
 use Rattle.model.specs.Call.{Words, WordsIn, hl3}
-use Rattle.model.specs.Run.{run, History}
+use Rattle.model.specs.Run.{run, History, history}
 use Rattle.model.specs.Settle.{greatestView, cannotSettle, turnOf, Settling, settled, refused, callsTaken, plainSettle, maxTurns, settleFrom, settle, maxSteps, Complete}
 use Rattle.model.proofs.Ordering.Representatives.{chosen-fair}
 use Rattle.model.proofs.Settling.SettleRun.{Numbered, settle-numbered}
 use Rattle.store.specs.Layout.{storedLength}
 use Rattle.store.specs.Valid.{ValidHall}
-use Rattle.store.specs.StoredForm.{stored, hallOf, isStored}
+use Rattle.store.specs.StoredForm.{hallOf, isStored}
 use Rattle.store.proofs.StoredFormLaws.{stored-isStored, hallOf-stored, hallOf-valid, stored-slice}
 use Rattle.store.proofs.KeepValid.{run-valid, open-valid}
-use Rattle.calls.specs.Calls.{withHall, openOn, runOn, settlingOn, SettleOutcome, settleOn}
-use Rattle.calls.specs.Histories.{historyOn}
+use Rattle.calls.specs.Calls.{openOn, runOn, settlingOn, SettleOutcome, settleOn}
+use Rattle.calls.specs.Histories.{Made, historyOf, Opens, madeOn, settleMade, HallCall, StepsMet, stepWords, stepsLeft, stepsMade, LentCall, LentMet, lentWords, lentLeft, lentMade}
 use Rattle.calls.proofs.OpenLaws.{open-done}
 use Rattle.calls.proofs.RunLaw.{run-stored}
 use Rattle.calls.proofs.SettleLaws.{settling-held, settling-broken, settle-hall-low}
-use Rattle.calls.proofs.Runs.{history-on}
+use Rattle.calls.proofs.Runs.{Sound, RunOf, run-then, then-words, history-of, MadeRun, made-run, sound-bytes}
+use Rattle.calls.proofs.Agreement.{made-sound, made-words, steps-sound, steps-words, lents-sound, lents-words}
 use Rattle.progress.specs.Promises.{Settled, Promised}
 use Rattle.progress.proofs.SettleFull.{settle-full-never}
 use Rattle.progress.proofs.Ends.{settle-ends, settle-bound}
@@ -88,33 +89,33 @@ settled-on b z = by-cases (isStored b) held (λ f. absurd (broken (number-settle
 
 -- ## Reached from opening
 
-words-append : (xs ys : List Words) → WordsIn xs → WordsIn ys → WordsIn (xs ++ ys)
-words-append [] ys p q = q
-words-append (x ∷ xs) ys p q = (p .0, words-append xs ys (p .1) q)
-
-module _ (b : List ℕ) (o : Opening) (t : openOn b o .number ≡ 0) (ws : List Words) (small : WordsIn ws) where
-  abbrev c : List ℕ
-  c = runOn (openOn b o .bytes) ws
-
-  abbrev reached : Hall
-  reached = run hl3 (opened o) ws
+-- any calls that are the definition's steps or are turned down, from an opening that is taken
+module _ (b : List ℕ) (o : Opening) (t : openOn b o .number ≡ 0) (ms : List Made) (c : List ℕ)
+    (small : WordsIn (map (λ (m : Made). m .words) ms)) (s : Sound (openOn b o .bytes) ms c) where
+  rest : List ℕ
+  rest = drop storedLength b
 
   none-refused : openRefusal o ≡ 0
   none-refused = open-done b o t .0
 
-  is-valid : ValidHall reached
-  is-valid = run-valid hl3 (opened o) ws small (open-valid o none-refused)
+  first : RunOf (opened o) rest ms c
+  unfolding rest
+  first = sound-bytes b o t ms c small s
 
-  bytes-are : c ≡ stored reached ++ drop storedLength b
-  unfolding withHall
-  bytes-are =
-      ap (λ (x : List ℕ). runOn x ws) (open-done b o t .1) ∙ run-stored (opened o) (drop storedLength b) ws (open-valid o none-refused) small .0
+  abbrev ws : List Words
+  ws = first .words
+
+  abbrev reached : Hall
+  reached = run hl3 (opened o) ws
+
+  is-valid : ValidHall reached
+  is-valid = run-valid hl3 (opened o) ws (first .inRange) (open-valid o none-refused)
 
   hall-is : hallOf c ≡ reached
-  hall-is = ap hallOf bytes-are ∙ hallOf-stored reached is-valid (drop storedLength b)
+  hall-is = ap hallOf (first .bytes) ∙ hallOf-stored reached is-valid rest
 
   on-is : settlingOn c ≡ settle hl3 reached
-  on-is = settling-held c (ap isStored bytes-are ∙ stored-isStored reached is-valid (drop storedLength b)) ∙ ap (settle hl3) hall-is
+  on-is = settling-held c (ap isStored (first .bytes) ∙ stored-isStored reached is-valid rest) ∙ ap (settle hl3) hall-is
 
   -- never 40
   by-barred : (u : Bool) → cannotSettle reached ≡ u
@@ -126,18 +127,63 @@ module _ (b : List ℕ) (o : Opening) (t : openOn b o .number ≡ 0) (ws : List 
       let done = settle-full-never hl3 (λ g. chosen-fair) o none-refused ws u in
       inl (ap (λ (x : Settling). plainSettle x .number) (on-is ∙ done .1))
 
-  -- the log is complete
+  -- the calls, and then those of the settle
+  module _ (ss : List Words) (e : settle hl3 reached ≡ settled ss) where
+    calls-are : callsTaken (settlingOn c) ≡ ss
+    unfolding callsTaken
+    calls-are = ap callsTaken (on-is ∙ e)
+
+    taken-low : WordsIn ss
+    taken-low = subst WordsIn (ap callsTaken (sym on-is) ∙ calls-are) (settle-hall-low reached is-valid)
+
+    later : MadeRun reached rest ss c
+    later = subst (MadeRun reached rest ss) (sym (first .bytes)) (made-run reached rest ss is-valid taken-low)
+
+    both : RunOf (opened o) rest (ms ++ madeOn c ss) (runOn c ss)
+    both = run-then (opened o) rest ms c (madeOn c ss) (runOn c ss) first (later .found)
+
+    history-both : history hl3 (opened o) (ws ++ ss) ≡ historyOf (ms ++ settleMade c) (settleOn c .bytes)
+    unfolding settleMade settleOn both
+    history-both =
+        ap (λ (l : List Words). history hl3 (opened o) (ws ++ l)) (sym (later .same))
+        ∙ ap (history hl3 (opened o)) (sym (then-words (opened o) rest ms c (madeOn c ss) (runOn c ss) first (later .found)))
+        ∙ history-of (opened o) rest (open-valid o none-refused) (ms ++ madeOn c ss) (runOn c ss) both
+        ∙ ap (λ (l : List Words). historyOf (ms ++ madeOn c l) (runOn c l)) (sym calls-are)
+
+    whole : Complete (historyOf (ms ++ settleMade c) (settleOn c .bytes)) (hallOf c .service .members (greatestView (hallOf c)))
+    unfolding hl3
+    whole =
+        subst₂ (λ (l : History) (h : Hall). Complete l (h .service .members (greatestView h))) history-both (sym hall-is)
+        (settle-complete hl3 (λ g. chosen-fair) o none-refused ws (first .inRange) ss e)
+
   when-taken : (x : Settling) → settle hl3 reached ≡ x → settleOn c .answer .number ≡ 0
-      → Complete (historyOn (openOn b o .bytes) (ws ++ callsTaken (settlingOn c))) (hallOf c .service .members (greatestView (hallOf c)))
-  unfolding settleOn plainSettle callsTaken hl3
-  when-taken (settled ss) e z =
-      let low : WordsIn ss = subst (λ (x : Settling). WordsIn (callsTaken x)) e (settle-hall-low reached is-valid) in
-      let whole = settle-complete hl3 (λ g. chosen-fair) o none-refused ws small ss e in
-      let same = history-on b o t (ws ++ ss) (words-append ws ss small low) in
-      let calls : ss ≡ callsTaken (settlingOn c) = sym (ap callsTaken (on-is ∙ e)) in
-      subst₂ (λ (l : List Words) (h : Hall). Complete (historyOn (openOn b o .bytes) (ws ++ l)) (h .service .members (greatestView h))) calls (sym hall-is)
-      (subst (λ (l : History). Complete l (reached .service .members (greatestView reached))) same whole)
+      → Complete (historyOf (ms ++ settleMade c) (settleOn c .bytes)) (hallOf c .service .members (greatestView (hallOf c)))
+  unfolding settleOn plainSettle
+  when-taken (settled ss) e z = whole ss e
   when-taken (refused n) e z = absurd (refused-number reached n e (number-settled (settlingOn c) z n (on-is ∙ e)))
 
-  pub promised : Promised b o ws
-  promised = record { never40 = by-barred (cannotSettle reached) refl; complete = when-taken (settle hl3 reached) refl }
+  pub sound-promised : Promised ms c
+  sound-promised = record { never40 = by-barred (cannotSettle reached) refl; complete = when-taken (settle hl3 reached) refl }
+
+-- ## The theorems
+
+-- after an opening that is taken and any list of steps by the definitions
+pub promised-on : (b : List ℕ) (o : Opening) → openOn b o .number ≡ 0 → (ws : List Words) → WordsIn ws
+    → Promised (madeOn (openOn b o .bytes) ws) (runOn (openOn b o .bytes) ws)
+promised-on b o t ws low =
+    let d = openOn b o .bytes in
+    sound-promised b o t (madeOn d ws) (runOn d ws) (subst WordsIn (sym (made-words d ws)) low) (made-sound d ws)
+
+-- after calls of `open`, `step` and `settle` that meet their contracts
+pub calls-promised : (b : List ℕ) (o : Opening) (n : ℕ) (d : List ℕ) → Opens b o n d → n ≡ 0
+    → (cs : List HallCall) → StepsMet d cs → WordsIn (stepWords cs) → Promised (stepsMade d cs) (stepsLeft d cs)
+calls-promised b o n d opens t cs met low =
+    sound-promised b o (sym (opens .number) ∙ t) (stepsMade d cs) (stepsLeft d cs) (steps-words d cs low)
+    (subst (λ (x : List ℕ). Sound x (stepsMade d cs) (stepsLeft d cs)) (opens .bytes) (steps-sound d cs met))
+
+-- after calls of `hall_open`, `hall_step` and `hall_settle` that meet theirs
+pub c-calls-promised : (b : List ℕ) (o : Opening) (n : ℕ) (d : List ℕ) → Opens b o n d → n ≡ 0
+    → (cs : List LentCall) → LentMet d cs → WordsIn (lentWords cs) → Promised (lentMade d cs) (lentLeft d cs)
+c-calls-promised b o n d opens t cs met low =
+    sound-promised b o (sym (opens .number) ∙ t) (lentMade d cs) (lentLeft d cs) (lents-words d cs met low)
+    (subst (λ (x : List ℕ). Sound x (lentMade d cs) (lentLeft d cs)) (opens .bytes) (lents-sound d cs met))
