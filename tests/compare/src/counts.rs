@@ -8,6 +8,7 @@ pub enum Call {
     Open,
     /// A step of a kind; 0 stands for every kind that is none.
     Step(u32),
+    Settle,
     Page,
     RunRead,
     RunAction,
@@ -20,6 +21,7 @@ impl fmt::Display for Call {
             Call::Open => write!(f, "open"),
             Call::Step(0) => write!(f, "no kind"),
             Call::Step(kind) => write!(f, "kind {kind}"),
+            Call::Settle => write!(f, "settle"),
             Call::Page => write!(f, "page"),
             Call::RunRead => write!(f, "run read"),
             Call::RunAction => write!(f, "run action"),
@@ -74,6 +76,9 @@ fn wanted_answers() -> Vec<(Call, u32, u32)> {
     let mut wanted = Vec::new();
     for number in [0, 16, 41, 18] {
         wanted.push((Call::Open, number, 0));
+    }
+    for number in [0, 31, 42, 40, 18] {
+        wanted.push((Call::Settle, number, 0));
     }
     for number in [0, 31, 12, 38, 18] {
         wanted.push((Call::Page, number, 0));

@@ -16,14 +16,18 @@ use reference::{open, open_built_in, stored, Hall, Votes};
 /// Damaged bytes that are a hall, and bytes that are none.
 pub const STILL_A_HALL: &str = "damaged: still a hall";
 pub const NO_HALL: &str = "damaged: no hall";
+/// Damaged bytes that are a hall which was settled.
+pub const SETTLED: &str = "damaged: settled";
 
 /// Where the votes stand.
 const VOTES_AT: usize = 59_699;
 
 /// A hall to damage: a random one, or one that a run reaches.
 fn sound_hall(random: &mut Random) -> Hall {
-    if random.coin() {
-        return halls::voting(random);
+    match random.below(4) {
+        0 => return halls::voting(random),
+        1 => return halls::to_settle(random),
+        _ => (),
     }
     let n = random.between(1, 8);
     let votes = rows::passing(random, n);
@@ -36,7 +40,7 @@ fn sound_hall(random: &mut Random) -> Hall {
     hall
 }
 
-/// A step or a page on bytes that may be no hall.
+/// A step, a page or a settle on bytes that may be no hall.
 fn call(random: &mut Random, pair: &mut Pair, counts: &mut Counts) -> Result<(), Difference> {
     let hall = pair.hall();
     counts.event(if hall.is_some() {
@@ -45,7 +49,11 @@ fn call(random: &mut Random, pair: &mut Pair, counts: &mut Counts) -> Result<(),
         NO_HALL
     });
     let room = random_room(random);
-    if random.one_in(3) {
+    if random.one_in(24) {
+        if let (0, _) = pair.settle(room, counts)? {
+            counts.event(SETTLED);
+        }
+    } else if random.one_in(3) {
         let (r, place) = match hall {
             Some(hall) => actions::page(random, hall),
             None => (random.between(0, 9), random.between(0, 1)),

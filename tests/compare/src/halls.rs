@@ -4,10 +4,11 @@
 use crate::random::Random;
 use crate::rows;
 use reference::hall::{
-    built_in_votes, entry_set, recorder_bit, LAST_ORDER_MARK, LAST_QUEUE_MARK, LAST_SEQ,
-    MOST_ENTRIES, MOST_LABELS, MOST_PENDING, MOST_QUEUED, MOST_VIEWS,
+    all_recorders, built_in_votes, entry_bit, entry_set, holds_recorder, recorder_bit,
+    LAST_ORDER_MARK, LAST_QUEUE_MARK, LAST_SEQ, MOST_ENTRIES, MOST_LABELS, MOST_PENDING,
+    MOST_QUEUED, MOST_VIEWS,
 };
-use reference::{Entry, Hall, Label, Message, Phase, Queued, Recorder, Seat, Summary, View};
+use reference::{open, Entry, Hall, Label, Message, Phase, Queued, Recorder, Seat, Summary, View};
 
 /// Numbers of views.
 #[derive(Clone, Copy)]
@@ -247,6 +248,13 @@ fn view(random: &mut Random, style: &Style, names: &Names, number: u32) -> View 
     view
 }
 
+/// The members of a view that have sent a summary in it.
+fn sent_summaries(view: &View) -> u32 {
+    let seats = (1..).zip(&view.seats);
+    let sent = seats.filter(|(_, seat)| seat.summary.is_some());
+    sent.fold(0, |set, (source, _)| set | recorder_bit(source))
+}
+
 /// The sources that may be marked heard, all but one of them, or any of them.
 fn sources(random: &mut Random, allowed: u32) -> u32 {
     match random.below(4) {
@@ -280,10 +288,7 @@ fn recorder(
     let chosen = random.pick_any(&own).filter(|_| !random.one_in(8));
     let view = chosen.map(|index| &views[index]);
     let members = view.map_or(0, |view| view.members);
-    let sent = view.map_or(0, |view| {
-        let sent = (1..=style.n).filter(|&source| view.seat(source).summary.is_some());
-        sent.fold(0, |set, source| set | 1 << (source - 1))
-    });
+    let sent = view.map_or(0, sent_summaries);
     let phases = [Phase::Normal, Phase::Send, Phase::Collect];
     let mark = |random: &mut Random| random.between(1, if style.low { 8 } else { LAST_ORDER_MARK });
     Recorder {
@@ -301,7 +306,7 @@ fn recorder(
         confirm: mark(random),
         report: mark(random),
         high: style.numbers.high(random),
-        heard: sources(random, members & sent),
+        heard: sources(random, sent),
         safe_sources: sources(random, members),
     }
 }
@@ -412,4 +417,95 @@ pub fn before_the_last(random: &mut Random, kind: u32) -> (Hall, u32) {
     recorder.heard = heard;
     recorder.safe_sources = others;
     (hall, r)
+}
+
+/// A random hall whose greatest view is mostly primary, with most members in it;
+/// such a member is not about to send a summary that it has sent.
+pub fn to_settle(random: &mut Random) -> Hall {
+    let mut hall = voting(random);
+    let Some(view) = hall.views.last().cloned() else {
+        return hall;
+    };
+    while !hall.is_primary(&view) && !random.one_in(8) {
+        hall.votes = rows::passing(random, hall.n);
+    }
+    let sent = sent_summaries(&view);
+    for r in (1..=hall.n).filter(|&r| view.has(r)) {
+        if random.one_in(8) {
+            continue;
+        }
+        let recorder = hall.recorder_mut(r);
+        recorder.current = view.number;
+        recorder.heard = sources(random, sent);
+        recorder.safe_sources = sources(random, view.members);
+        if holds_recorder(sent, r) && recorder.phase == Phase::Send {
+            recorder.phase = random.pick(&[Phase::Normal, Phase::Collect]);
+        }
+    }
+    hall
+}
+
+/// A hall just opened, of any size.
+fn opened(random: &mut Random) -> Hall {
+    let n = random.between(1, 8);
+    let founders = all_recorders(n);
+    open(n, founders, rows::passing(random, n)).expect("the opening is taken")
+}
+
+/// An entry, with a label of view 1 or none.
+fn entry(sender: u32, seq: Option<u32>) -> Entry {
+    let label = |seq: u32| Label {
+        view: 1,
+        seq,
+        sender,
+    };
+    Entry {
+        sender,
+        value: 0,
+        label: seq.map(label),
+    }
+}
+
+/// A hall in which a recorder has one entry more to send than its buffer holds.
+/// Nobody receives what it sends: all marks are past the queue.
+pub fn long_buffer(random: &mut Random) -> Hall {
+    let mut hall = opened(random);
+    let sender = random.between(1, hall.n);
+    let waiting = random.between(1, 8) as usize;
+    hall.entries = vec![entry(sender, None); waiting];
+    hall.entries.push(entry(sender, Some(LAST_SEQ)));
+    let recorder = hall.recorder_mut(sender);
+    recorder.known = entry_bit(waiting);
+    recorder.buffer = vec![waiting; MOST_LABELS + 1 - waiting];
+    for seat in &mut hall.views[0].seats {
+        seat.receive = LAST_QUEUE_MARK;
+    }
+    hall
+}
+
+/// A hall in whose view all members have sent summaries, which stand in the
+/// queue. They are at any place of the exchange, and nothing else is to be sent.
+pub fn in_exchange(random: &mut Random) -> Hall {
+    let mut hall = opened(random);
+    let count = random.between(1, 16);
+    hall.entries = (1..=count).map(|seq| entry(1, Some(seq))).collect();
+    let names = Names::of(&hall.entries);
+    let view = &mut hall.views[0];
+    for k in 1..=hall.n {
+        view.seat_mut(k).summary = Some(close_summary(random, &names, 0, 1));
+        for _ in 0..random.between(1, 3) {
+            queue_summary(random, view, k);
+        }
+    }
+    for seat in &mut view.seats {
+        seat.receive = queue_mark(random, view.queue.len());
+        seat.safe = queue_mark(random, view.queue.len());
+    }
+    let members = view.members;
+    for recorder in &mut hall.recorders {
+        recorder.phase = random.pick(&[Phase::Normal, Phase::Collect]);
+        recorder.heard = sources(random, members);
+        recorder.safe_sources = sources(random, members);
+    }
+    hall
 }

@@ -3,6 +3,7 @@
 
 pub mod actions;
 pub mod counts;
+pub mod courses;
 pub mod damage;
 pub mod decisions;
 pub mod events;
@@ -16,4 +17,5 @@ pub mod pair;
 pub mod random;
 pub mod rows;
 pub mod runs;
+pub mod settles;
 pub mod vectors;

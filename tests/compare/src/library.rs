@@ -29,6 +29,8 @@ extern "C" {
         answer_len: usize,
     ) -> u32;
 
+    fn hall_settle(hall: *mut u8, hall_len: usize, answer: *mut u8, answer_len: usize) -> u32;
+
     fn hall_page(
         hall: *const u8,
         hall_len: usize,
@@ -151,6 +153,11 @@ pub fn step(hall: &mut Lent, [k, r, a, b]: [u32; 4], answer: &mut Lent) -> u32 {
             answer.length,
         )
     }
+}
+
+pub fn settle(hall: &mut Lent, answer: &mut Lent) -> u32 {
+    // Safety: as for a step.
+    unsafe { hall_settle(hall.pointer(), hall.length, answer.pointer(), answer.length) }
 }
 
 pub fn page(hall: &mut Lent, r: u32, place: u32, page: &mut Lent) -> u32 {

@@ -10,7 +10,9 @@
 
 use compare::counts::Counts;
 use compare::pair::Difference;
-use compare::{damage, decisions, events, files, margins, offsets, openings, runs, vectors};
+use compare::{
+    courses, damage, decisions, events, files, margins, offsets, openings, runs, settles, vectors,
+};
 use std::env;
 use std::process::ExitCode;
 use std::sync::atomic::{AtomicU64, Ordering};
@@ -28,14 +30,21 @@ type Row = (&'static str, Test, u64, &'static [&'static [&'static str]]);
 const REACHED: [&[&str]; 2] = [&decisions::REACHED, &events::BY_ROW];
 const RANDOM: [&[&str]; 2] = [&decisions::RANDOM, &events::BY_ROW];
 
-const TESTS: [Row; 19] = [
+const SETTLES: [&[&str]; 1] = [&courses::ANY];
+const ODD_SETTLES: [&[&str]; 2] = [&courses::ANY, &courses::RANDOM];
+
+const TESTS: [Row; 23] = [
     ("offsets by hand", offsets::by_hand, 1, &[]),
     ("vectors", vectors::all, 1, &[]),
+    ("recorded settles", vectors::settles, 1, &[]),
+    ("counted settles", settles::counted, 1, &[]),
     ("all openings", openings::all, 1, &[]),
     ("openings with votes", openings::votes, 1, &[]),
     ("any openings", openings::any, 32, &[]),
     ("margins", margins::all, 1, &[]),
     ("offsets of halls", offsets::of_halls, 1_000, &[]),
+    ("settled runs", settles::opened, 300, &SETTLES),
+    ("odd settles", settles::odd, 400, &ODD_SETTLES),
     ("opened halls", runs::opened, 320, &REACHED),
     ("odd halls", runs::odd, 400, &[&events::BY_ROW]),
     ("exchanges", runs::exchanges, 100, &RANDOM),
@@ -150,7 +159,7 @@ fn report(name: &str, first: u64, seeds: u64, outcome: &Outcome, seconds: f64) -
 fn report_counts(counts: &Counts, mut missing: Vec<String>) -> bool {
     println!("through the C interface:\n{counts}");
     let mut events = events::EVENTS.to_vec();
-    events.extend([damage::STILL_A_HALL, damage::NO_HALL]);
+    events.extend([damage::STILL_A_HALL, damage::NO_HALL, damage::SETTLED]);
     events.extend(margins::EVENTS);
     events.extend(files::EVENTS);
     missing.extend(counts.missing_answers());

@@ -3,6 +3,7 @@
 //! and number, answer and all bytes are compared.
 
 use crate::counts::{Call, Counts};
+use crate::courses;
 use crate::events;
 use crate::library::{self, Lent};
 use crate::random::Random;
@@ -52,7 +53,10 @@ pub fn words_of(area: &[u8]) -> [u32; WORDS] {
 }
 
 /// The number of a call, and the words that it gave if the number is 0.
-pub fn given(number: u32, answer: &Lent) -> (u32, [u32; WORDS]) {
+pub type Given = (u32, [u32; WORDS]);
+
+/// What a call gave in the area of its answer.
+pub fn given(number: u32, answer: &Lent) -> Given {
     match number {
         0 => (0, words_of(answer.area())),
         _ => (number, [0; WORDS]),
@@ -140,6 +144,35 @@ impl Pair {
         Ok(())
     }
 
+    /// Compares a call's number, its answer and all bytes. Gives the number, and
+    /// the words if that is 0.
+    fn compare_call(
+        &self,
+        number: u32,
+        wanted: Result<[u32; WORDS], u32>,
+        answer: &Lent,
+    ) -> Result<Given, Difference> {
+        if number != wanted.err().unwrap_or(0) {
+            return Err(format!("number {number}, wanted {wanted:?}"));
+        }
+        let after = answer_after(answer.length(), wanted.as_ref().ok());
+        self.compare(Some((answer, after)))?;
+        Ok(given(number, answer))
+    }
+
+    /// The same for a call that has left the hall as it is now.
+    fn compare_change(
+        &mut self,
+        number: u32,
+        wanted: Result<[u32; WORDS], u32>,
+        answer: &Lent,
+    ) -> Result<Given, Difference> {
+        if let (Ok(_), Some(hall)) = (wanted, &self.hall) {
+            stored::write(hall, &mut self.wanted);
+        }
+        self.compare_call(number, wanted, answer)
+    }
+
     /// Opens a hall of N, 1 to 8, with the built-in row.
     pub fn open_built_in(
         &mut self,
@@ -195,24 +228,33 @@ impl Pair {
         action: [u32; 4],
         room: usize,
         counts: &mut Counts,
-    ) -> Result<(u32, [u32; WORDS]), Difference> {
+    ) -> Result<Given, Difference> {
         let before = events::before(self.hall.as_ref(), action);
         let wanted = calls::step_hall(self.hall.as_mut(), action, room >= ANSWER_LENGTH);
         let mut answer = answer_slice(room);
         let number = library::step(&mut self.lent, action, &mut answer);
-        let at = |what: Difference| format!("step {action:?}: {what}");
-        if number != wanted.err().unwrap_or(0) {
-            return Err(at(format!("number {number}, wanted {wanted:?}")));
-        }
-        if let (Ok(_), Some(hall)) = (wanted, &self.hall) {
-            stored::write(hall, &mut self.wanted);
-        }
-        let after = answer_after(room, wanted.as_ref().ok());
-        self.compare(Some((&answer, after))).map_err(at)?;
-        let (number, words) = given(number, &answer);
+        let compared = self.compare_change(number, wanted, &answer);
+        let (number, words) = compared.map_err(|what| format!("step {action:?}: {what}"))?;
         let kind = if action[0] <= 11 { action[0] } else { 0 };
         counts.call(Call::Step(kind), number, words[0]);
         for event in events::events(before, self.hall.as_ref(), action, number) {
+            counts.event(event);
+        }
+        Ok((number, words))
+    }
+
+    /// A settle with a slice of `room` bytes for the answer. Gives the library's
+    /// number, and its words if that is 0.
+    pub fn settle(&mut self, room: usize, counts: &mut Counts) -> Result<Given, Difference> {
+        let fits = room >= ANSWER_LENGTH;
+        let events = courses::events(self.hall.as_ref(), fits);
+        let wanted = calls::settle_hall(self.hall.as_mut(), fits);
+        let mut answer = answer_slice(room);
+        let number = library::settle(&mut self.lent, &mut answer);
+        let compared = self.compare_change(number, wanted, &answer);
+        let (number, words) = compared.map_err(|what| format!("settle: {what}"))?;
+        counts.call(Call::Settle, number, 0);
+        for event in events {
             counts.event(event);
         }
         Ok((number, words))
@@ -226,18 +268,14 @@ impl Pair {
         place: u32,
         room: usize,
         counts: &mut Counts,
-    ) -> Result<(u32, [u32; WORDS]), Difference> {
+    ) -> Result<Given, Difference> {
         let wanted = calls::page_of(self.hall.as_ref(), r, place, room >= ANSWER_LENGTH);
         let mut page = answer_slice(room);
         let number = library::page(&mut self.lent, r, place, &mut page);
-        let at = |what: Difference| format!("page {r} {place}: {what}");
-        if number != wanted.err().unwrap_or(0) {
-            return Err(at(format!("number {number}, wanted {wanted:?}")));
-        }
+        let compared = self.compare_call(number, wanted, &page);
+        let (number, words) = compared.map_err(|what| format!("page {r} {place}: {what}"))?;
         counts.call(Call::Page, number, 0);
-        let after = answer_after(room, wanted.as_ref().ok());
-        self.compare(Some((&page, after))).map_err(at)?;
-        Ok(given(number, &page))
+        Ok((number, words))
     }
 
     /// The second implementation reads its own bytes as the same hall.
