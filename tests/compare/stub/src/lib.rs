@@ -1,9 +1,10 @@
 //! The calls of `include/hall.h` over the second implementation, right or with
-//! one of the mistakes here, in `numbers`, in `choices` and in `votes`, which
-//! HALL_FAULT names.
+//! one of the mistakes here, in `numbers`, in `choices`, in `votes` and in
+//! `settles`, which HALL_FAULT names.
 
 mod choices;
 mod numbers;
+mod settles;
 mod votes;
 
 use reference::actions::judge_kind;
@@ -105,6 +106,26 @@ pub unsafe extern "C" fn hall_step(
         answer[16] = answer[4];
     }
     number
+}
+
+/// # Safety
+/// As in `include/hall.h`.
+#[no_mangle]
+pub unsafe extern "C" fn hall_settle(
+    hall: *mut u8,
+    hall_len: usize,
+    answer: *mut u8,
+    answer_len: usize,
+) -> u32 {
+    let hall = from_raw_parts_mut(hall, hall_len);
+    let answer = from_raw_parts_mut(answer, answer_len);
+    if fault().is_none() {
+        return calls::settle(hall, answer);
+    }
+    if let Some(number) = wrong_check(hall) {
+        return number;
+    }
+    settles::settle(hall, answer)
 }
 
 /// # Safety
