@@ -167,9 +167,10 @@ const NUMBERED: [[u32; 4]; 6] = [
 ];
 
 /// Where its numbers are, each with the least and the greatest that it may be: of
-/// the third view, of the label, the current view, the recorder's highest primary
-/// and the summary's.
-const NUMBERS: [(usize, u32, u32); 5] = [
+/// the first view, the third, of the label, the current view, the recorder's
+/// highest primary and the summary's.
+const NUMBERS: [(usize, u32, u32); 6] = [
+    (2, 1, 1),
     (12, 3, u32::MAX),
     (168, 1, u32::MAX),
     (803, 0, 3),

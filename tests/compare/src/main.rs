@@ -43,7 +43,7 @@ const TESTS: [Row; 23] = [
     ("any openings", openings::any, 32, &[]),
     ("margins", margins::all, 1, &[]),
     ("offsets of halls", offsets::of_halls, 1_000, &[]),
-    ("settled runs", settles::opened, 300, &SETTLES),
+    ("settled runs", settles::opened, 600, &SETTLES),
     ("odd settles", settles::odd, 400, &ODD_SETTLES),
     ("opened halls", runs::opened, 320, &REACHED),
     ("odd halls", runs::odd, 400, &[&events::BY_ROW]),
