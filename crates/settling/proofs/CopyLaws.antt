@@ -29,9 +29,9 @@ use Rattle.calls.proofs.RunLaw.{run-stored}
 use Rattle.calls.proofs.SettleLaws.{settling-held, settling-broken, settle-hall-low}
 use Rattle.progress.proofs.GreatestView.{greatest-last, formed-low}
 use Rattle.hall.specs.declared.View.{View}
-use Rattle.hall.specs.Parts.{HasView, ViewIs, viewIn, inView}
+use Rattle.hall.specs.Parts.{ViewIs, viewIn, inView}
 use Rattle.step.specs.Numbers.{bytesNumber}
-use Rattle.step.proofs.StepsLaws.{bytes-hall, bytes-broken}
+use Rattle.step.proofs.StepsLaws.{bytes-hold, bytes-hall, bytes-broken}
 use Rattle.settling.specs.Turns.{InView, TurnsTaken, SettledCopy}
 
 -- ## 42
@@ -64,11 +64,10 @@ barred-last b count s e ne p i =
     ∙ sym (ap (λ (t : Bool). t || not (isPrimary h (greatestView h))) (ne-eqb (greatestView h) 0 (λ z. omega (arith, low, last))))
 
 -- a hall that is not barred has a view
-some-view : (b : List ℕ) (count : ℕ) → count ≡ length (hallOf b .service .created) → cannotSettle (hallOf b) ≡ false → count ≡ 0 → ⊥
-some-view b count e t z = true≢false (barred-none b count e z ∙ t)
-
-pub view-there : (b : List ℕ) (count : ℕ) → count ≡ length (hallOf b .service .created) → cannotSettle (hallOf b) ≡ false → 1 ≤ count
-view-there b count e t = omega (arith, some-view b count e t)
+pub view-there : (b : List ℕ) (count : ℕ) → count ≡ length (hallOf b .service .created) → (t : Bool) → t ≡ cannotSettle (hallOf b) → t ≡ false → 1 ≤ count
+view-there b count e t is f =
+    let some : count ≡ 0 → ⊥ = λ z. true≢false (barred-none b count e z ∙ sym is ∙ f) in
+    omega (arith, some)
 
 -- ## The settle of a slice, case by case
 
@@ -114,8 +113,9 @@ settle-broken b n e ne x is =
     }
 
 -- 42
-pub copy-barred : (b : List ℕ) → isStored b ≡ true → cannotSettle (hallOf b) ≡ true → (x : Settled) → x ≡ Settled.Refused 42 → (c : List ℕ) → SettledCopy b x c
-copy-barred b s t x is c = copy-refused b 42 (λ z. absurd (omega arith)) (settling-held b s ∙ settle-barred (hallOf b) t) x is c
+pub copy-barred : (b : List ℕ) → isStored b ≡ true → (t : Bool) → t ≡ cannotSettle (hallOf b) → t ≡ true
+    → (x : Settled) → x ≡ Settled.Refused 42 → (c : List ℕ) → SettledCopy b x c
+copy-barred b s t e y x is c = copy-refused b 42 (λ z. absurd (omega arith)) (settling-held b s ∙ settle-barred (hallOf b) (sym e ∙ y)) x is c
 
 -- ## The copy
 
@@ -132,22 +132,9 @@ whole-written : (n : ℕ) (xs w : List ℕ) → length xs ≡ n → length w ≡
 whole-written n xs w l m =
     front-written n xs w l (omega arith) ∙ ap (λ k. xs ++ drop k w) (sym m) ∙ ap (λ (r : List ℕ). xs ++ r) (drop-length w) ∙ append-nil xs
 
--- a slice of the stored length, with the stored part of b written in it
-pub copied : (b w : List ℕ) → isStored b ≡ true → length w ≡ storedLength → sets w 0 (take storedLength b) ≡ take storedLength b
-copied b w s l = whole-written storedLength (take storedLength b) w (length-take-le storedLength b (isStored-long b s)) l
+-- ## A run on a slice, and on a copy of its stored part
 
--- b holds a hall, and c is a copy of its stored part
-module _ (b : List ℕ) (s : isStored b ≡ true) (c : List ℕ) (is : c ≡ take storedLength b) where
-  pub copy-holds : isStored c ≡ true
-  copy-holds = ap isStored is ∙ isStored-first b (isStored-long b s) ∙ s
-
-  pub copy-hall : hallOf c ≡ hallOf b
-  copy-hall = ap hallOf is ∙ hallOf-first b
-
-  -- its view with the greatest number is b's
-  pub copy-view : (v : View) → ViewIs (hallOf b) (greatestView (hallOf b)) v → InView c v
-  copy-view v i = record { holds = copy-holds; view = subst (λ (x : Hall). ViewIs x (greatestView x) v) (sym copy-hall) i }
-
+module _ (b : List ℕ) (s : isStored b ≡ true) where
   abbrev h : Hall
   h = hallOf b
 
@@ -157,7 +144,6 @@ module _ (b : List ℕ) (s : isStored b ≡ true) (c : List ℕ) (is : c ≡ tak
   valid : ValidHall h
   valid = hallOf-valid b s
 
-  -- a run on b, and on the copy
   run-whole : (ws : List Words) → WordsIn ws → runOn b ws ≡ stored (run hl3 h ws) ++ rest
   run-whole ws low = ap (λ (x : List ℕ). runOn x ws) (sym (stored-slice b s)) ∙ run-stored h rest ws valid low .0
 
@@ -165,34 +151,58 @@ module _ (b : List ℕ) (s : isStored b ≡ true) (c : List ℕ) (is : c ≡ tak
   run-first ws low =
       sym (ap (take storedLength) (run-whole ws low) ∙ take-at (stored (run hl3 h ws)) rest storedLength (stored-block (run hl3 h ws) (run-valid hl3 h ws low valid) .len))
 
-  copy-run : (ws : List Words) → WordsIn ws → runOn c ws ≡ take storedLength (runOn b ws)
-  copy-run ws low =
-      ap (λ (x : List ℕ). runOn x ws) (is ∙ sym (stored-hallOf b s) ∙ sym (append-nil (stored h)))
+  run-copy : (ws : List Words) → WordsIn ws → runOn (take storedLength b) ws ≡ take storedLength (runOn b ws)
+  run-copy ws low =
+      ap (λ (x : List ℕ). runOn x ws) (sym (stored-hallOf b s) ∙ sym (append-nil (stored h)))
       ∙ run-stored h [] ws valid low .0 ∙ append-nil (stored (run hl3 h ws)) ∙ run-first ws low
 
-  -- turns on the copy are the settle's
-  pub copy-settled : cannotSettle h ≡ false → (v : View) → InView c v → (x : Settled) (d : List ℕ) → TurnsTaken c v x d → SettledCopy b x d
-  unfolding settleOn
-  copy-settled t v i x d taken =
-      let same : settleFrom hl3 maxTurns (v .number) (hallOf c) ≡ settle hl3 h =
-      ap₂ (λ (g : ℕ) (k : Hall). settleFrom hl3 maxTurns g k) (i .view .number ∙ ap greatestView copy-hall) copy-hall ∙ sym (settle-goes h t) in
-      let on = settling-held b s in
-      record {
-        answer = taken .answer ∙ ap plainSettle (same ∙ sym on);
-        bytes = λ z.
-            taken .bytes z ∙ ap (λ (y : Settling). runOn c (callsTaken y)) same ∙ copy-run (callsTaken (settle hl3 h)) (settle-hall-low h valid)
-            ∙ ap (λ (y : Settling). take storedLength (runOn b (callsTaken y))) (sym on);
-      }
-
   -- the copy written back
-  pub copy-back : take storedLength (settleOn b .bytes) ++ drop storedLength b ≡ settleOn b .bytes
+  copy-back : take storedLength (settleOn b .bytes) ++ drop storedLength b ≡ settleOn b .bytes
   unfolding settleOn
   copy-back =
       let ws = callsTaken (settle hl3 h) in
       let on = ap (λ (y : Settling). runOn b (callsTaken y)) (settling-held b s) in
       ap (λ (x : List ℕ). take storedLength x ++ rest) on ∙ ap (λ (x : List ℕ). x ++ rest) (sym (run-first ws (settle-hall-low h valid))) ∙ sym (run-whole ws (settle-hall-low h valid)) ∙ sym on
 
+-- b holds a hall, and c is a slice w of the stored length with the stored part of b written in it
+module _ (b : List ℕ) (s : isStored b ≡ true) (w : List ℕ) (long : length w ≡ storedLength) (c : List ℕ)
+    (written : c ≡ sets w 0 (take storedLength b)) where
+  copied : c ≡ take storedLength b
+  copied = written ∙ whole-written storedLength (take storedLength b) w (length-take-le storedLength b (isStored-long b s)) long
+
+  copy-hall : hallOf c ≡ hallOf b
+  copy-hall = ap hallOf copied ∙ hallOf-first b
+
+  -- its view with the greatest number is b's
+  pub copy-view : (v : View) → ViewIs (hallOf b) (greatestView (hallOf b)) v → InView c v
+  copy-view v i =
+      record {
+        holds = ap isStored copied ∙ isStored-first b (isStored-long b s) ∙ s;
+        view = subst (λ (x : Hall). ViewIs x (greatestView x) v) (sym copy-hall) i;
+      }
+
+  -- turns on the copy are the settle's
+  pub copy-settled : (t : Bool) → t ≡ cannotSettle (hallOf b) → t ≡ false → (v : View) → ViewIs (hallOf b) (greatestView (hallOf b)) v
+      → (x : Settled) (d : List ℕ) → TurnsTaken c v x d → SettledCopy b x d
+  unfolding settleOn
+  copy-settled t e f v i x d taken =
+      let same : settleFrom hl3 maxTurns (v .number) (hallOf c) ≡ settle hl3 (hallOf b) =
+      ap₂ (λ (g : ℕ) (k : Hall). settleFrom hl3 maxTurns g k) (i .number) copy-hall ∙ sym (settle-goes (hallOf b) (sym e ∙ f)) in
+      let on = settling-held b s in
+      record {
+        answer = taken .answer ∙ ap plainSettle (same ∙ sym on);
+        bytes = λ z.
+            taken .bytes z ∙ ap (λ (y : Settling). runOn c (callsTaken y)) same
+            ∙ ap (λ (y : List ℕ). runOn y (callsTaken (settle hl3 (hallOf b)))) copied
+            ∙ run-copy b s (callsTaken (settle hl3 (hallOf b))) (settle-hall-low (hallOf b) (hallOf-valid b s))
+            ∙ ap (λ (y : Settling). take storedLength (runOn b (callsTaken y))) (sym on);
+      }
+
 -- ## The answer of the whole
+
+-- the check's number is 0: the slice holds a hall
+pub checked : (b : List ℕ) (n : ℕ) → n ≡ bytesNumber b → n ≡ 0 → isStored b ≡ true
+checked b n e z = bytes-hold b (sym e ∙ z)
 
 -- its copy is written back
 pub settle-taken : (b : List ℕ) → isStored b ≡ true → (n : ℕ) (x : Settled) → x ≡ Settled.Count n → (c : List ℕ) → SettledCopy b x c → length c ≡ storedLength
@@ -205,7 +215,7 @@ settle-taken b s n x e c copy l d is =
       answer = copy .answer;
       bytes =
           is ∙ ap (sets b 0) whole ∙ front-written storedLength c b l (isStored-long b s)
-          ∙ ap (λ (r : List ℕ). r ++ drop storedLength b) (copy .bytes z) ∙ copy-back b s (take storedLength b) refl;
+          ∙ ap (λ (r : List ℕ). r ++ drop storedLength b) (copy .bytes z) ∙ copy-back b s;
     }
 
 -- a refused one leaves the bytes

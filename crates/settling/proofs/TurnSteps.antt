@@ -24,7 +24,7 @@ use Rattle.calls.proofs.HeldSteps.{step-answer}
 use Rattle.progress.specs.AnyTurn.{anyTurn}
 use Rattle.hall.specs.declared.View.{View}
 use Rattle.settling.specs.declared.Turn.{Turn}
-use Rattle.settling.specs.Turns.{found, isFound, memberNumber, TurnAt}
+use Rattle.settling.specs.Turns.{found, isFound, memberNumber}
 
 -- ## A call tried
 

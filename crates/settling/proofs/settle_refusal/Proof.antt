@@ -1,10 +1,9 @@
 -- 31, or the number of the settle on a copy. Assumes nothing.
 use borrow.Author.Needs.{needs}
 use denote.Ref.{now}
-use mathlib.Core.Path.{sym, ap, _∙_}
+use mathlib.Core.Path.{ap, _∙_}
 use Rattle.model.specs.Answers.{Plain}
-use Rattle.step.proofs.StepsLaws.{bytes-hold}
-use Rattle.settling.proofs.CopyLaws.{broken-number}
+use Rattle.settling.proofs.CopyLaws.{checked, broken-number}
 use Rattle.settling.proofs.settle_refusal.Statement.{statement}
 use Rattle.settling.proofs.settle_refusal.Tie as tie
 
@@ -18,7 +17,9 @@ slice-aggregate-settle-hall : tie.Need-slice-aggregate-settle-hall
 slice-aggregate-settle-hall c = search needs
 
 settle-hall-requires : tie.Need-settle-hall-requires
-settle-hall-requires c κs = (bytes-hold (now (c .before .before .before .before .args .bytes)) (sym (c .before .before .bytes-refusal .ensures) ∙ c .before .if1 .left), search needs)
+settle-hall-requires c κs =
+    let n = c .before .before .bytes-refusal in
+    (checked (now (c .before .before .before .before .args .bytes)) (n .result) (n .ensures) (c .before .if1 .left), search needs)
 
 plain-settled-requires : tie.Need-plain-settled-requires
 plain-settled-requires c κs = search needs
