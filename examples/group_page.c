@@ -575,11 +575,24 @@ static uint32_t open_hall(struct run *run)
     return hall_open_built_in(run->hall, HALL_LENGTH, run->n, run->founders);
 }
 
+/* The set of view 1 in a hall just opened, as the page of a founder shows it. */
+static uint32_t first_members(const struct run *run)
+{
+    uint8_t page[HALL_ANSWER_LENGTH];
+    uint32_t set = 0;
+    for (uint32_t r = 1; r <= run->n && set == 0; r++) {
+        if (hall_page(run->hall, HALL_LENGTH, r, 0, page, sizeof page) == HALL_OK) {
+            set = hall_word(page, HALL_PAGE_SET);
+        }
+    }
+    return set;
+}
+
 /* What is known of a hall just opened. */
 static void begin(struct run *run)
 {
     run->view = 1;
-    run->members = run->founders != 0 ? run->founders : (1u << run->n) - 1;
+    run->members = first_members(run);
     run->given = 0;
     run->unlike = 0;
 }

@@ -89,19 +89,8 @@ settled-on b z = by-cases (isStored b) held (λ f. absurd (broken (number-settle
 
 -- ## Reached from opening
 
--- any calls that are the definition's steps or are turned down, from an opening that is taken
-module _ (b : List ℕ) (o : Opening) (t : openOn b o .number ≡ 0) (ms : List Made) (c : List ℕ)
-    (small : WordsIn (map (λ (m : Made). m .words) ms)) (s : Sound (openOn b o .bytes) ms c) where
-  rest : List ℕ
-  rest = drop storedLength b
-
-  none-refused : openRefusal o ≡ 0
-  none-refused = open-done b o t .0
-
-  first : RunOf (opened o) rest ms c
-  unfolding rest
-  first = sound-bytes b o t ms c small s
-
+-- calls that are a run from an opening that is taken, with what they left
+module _ (o : Opening) (none-refused : openRefusal o ≡ 0) (rest : List ℕ) (ms : List Made) (c : List ℕ) (first : RunOf (opened o) rest ms c) where
   abbrev ws : List Words
   ws = first .words
 
@@ -162,10 +151,15 @@ module _ (b : List ℕ) (o : Opening) (t : openOn b o .number ≡ 0) (ms : List 
   when-taken (settled ss) e z = whole ss e
   when-taken (refused n) e z = absurd (refused-number reached n e (number-settled (settlingOn c) z n (on-is ∙ e)))
 
-  pub sound-promised : Promised ms c
-  sound-promised = record { never40 = by-barred (cannotSettle reached) refl; complete = when-taken (settle hl3 reached) refl }
+  run-promised : Promised ms c
+  run-promised = record { never40 = by-barred (cannotSettle reached) refl; complete = when-taken (settle hl3 reached) refl }
 
 -- ## The theorems
+
+-- calls that are the definition's steps or are turned down
+sound-promised : (b : List ℕ) (o : Opening) → openOn b o .number ≡ 0 → (ms : List Made) (c : List ℕ)
+    → WordsIn (map (λ (m : Made). m .words) ms) → Sound (openOn b o .bytes) ms c → Promised ms c
+sound-promised b o t ms c small s = run-promised o (open-done b o t .0) (drop storedLength b) ms c (sound-bytes b o t ms c small s)
 
 -- after an opening that is taken and any list of steps by the definitions
 pub promised-on : (b : List ℕ) (o : Opening) → openOn b o .number ≡ 0 → (ws : List Words) → WordsIn ws
