@@ -1,13 +1,12 @@
 -- Laws of votes, margins and quorums, for every row of votes. Two quorums of one hall share a recorder.
 -- Assumes nothing.
 use Prim.Native.Nat.{ℕ, zero, suc, _+_, _-_, _*_, _≤_, _<_}
-use native.Mathlib.Numerals.{add-one}
 use native.Mathlib.Omega.{arith}
 use mathlib.Core.Bool.{Bool, true, false, not, _&&_, _||_}
 use mathlib.Core.Logic.{_⊎_, inl, inr, ⊎-elim}
 use mathlib.Core.Path.{_≡_, refl, sym, ap, ap₂, _∙_}
 use mathlib.Core.List.{List, [], _∷_, map}
-use borrow.Author.Tests.{ltb-true, leb-true, leb-false, eqb-true, eqb-false, ne-eqb, eq-eqb, le-leb, not-true, not-false}
+use borrow.Author.Tests.{ltb-true, leb-true, leb-false, eqb-true, eqb-false, ne-eqb, eq-eqb, le-leb, lt-leb, not-true, not-false}
 use lib.Dec.{eqb, leb, ltb}
 use lib.IntN.{pos, negℤ, subℕ}
 use lib.ListN.{length, getD, drop}
@@ -23,7 +22,7 @@ use Rattle.base.proofs.ListsLaws.{all-get, get-all}
 use Rattle.base.proofs.Filters.{map-same}
 use Rattle.base.proofs.NumbersLaws.{all-upTo, get-upTo, upTo-numbers, numbers-range}
 use Rattle.quorum.specs.Sets.{inMask, members}
-use Rattle.quorum.specs.Votes.{votes, total, margin, quorum, share, builtIn, rowOf, maxVote, smallRow, noVotes, builtInRow, wrongRow}
+use Rattle.quorum.specs.Votes.{votes, total, margin, quorum, share, counted, walk, builtIn, rowOf, maxVote, smallRow, noVotes, builtInRow, wrongRow}
 use Rattle.quorum.proofs.SetLaws.{has-members}
 
 -- ---- one recorder more
@@ -31,10 +30,6 @@ use Rattle.quorum.proofs.SetLaws.{has-members}
 pub votes-more : (row : ℕ → ℕ) (n : ℕ) (s : ℕ → Bool) → votes row (suc n) s ≡ share (s (suc n)) (row (suc n)) + votes row n s
 unfolding votes share
 votes-more row n s = refl
-
--- the same at n + 1
-pub votes-next : (row : ℕ → ℕ) (n : ℕ) (s : ℕ → Bool) → votes row (n + 1) s ≡ share (s (n + 1)) (row (n + 1)) + votes row n s
-votes-next row n s = rw add-one (votes-more row n s)
 
 -- ---- what votes and quorums depend on: the row and the set on 1 to n
 
@@ -67,6 +62,61 @@ pub margin-members : (row : ℕ → ℕ) (n b : ℕ) → margin row n (inMask b)
 margin-members row n b =
     margin-agree row row n (inMask b) (has (members n b)) (λ k low high. refl) (λ k low high. sym (has-members n b k low high))
 
+-- ---- the count in one walk (02, A6)
+
+-- recorders above n add nothing to any set
+counted-none : (row : ℕ → ℕ) (n k : ℕ) (t : Bool) → n < k → share t (counted row n k) ≡ 0
+unfolding share
+counted-none row n k true h = rw (lt-leb k n h)
+counted-none row n k false h = refl
+
+counted-same : (row : ℕ → ℕ) (n k : ℕ) (s : ℕ → Bool) → k ≡ n → votes (counted row n) k s ≡ votes row n s
+unfolding share
+counted-same row n k s e =
+    votes-agree (counted row n) row k s s (λ j low high. rw (le-leb j n (omega arith))) (λ j low high. refl) ∙ ap (λ (m : ℕ). votes row m s) e
+
+-- so all votes that count are those of 1 to n
+counted-votes : (row : ℕ → ℕ) (n k : ℕ) (s : ℕ → Bool) → n ≤ k → votes (counted row n) k s ≡ votes row n s
+unfolding share
+counted-votes row n zero s h = counted-same row n 0 s (omega arith)
+counted-votes row n (suc k) s h =
+    by-cases (leb (suc k) n)
+    (λ t. counted-same row n (suc k) s (omega (arith, leb-true (suc k) n t)))
+    (λ f.
+    let l = leb-false (suc k) n f in
+    omega (arith, votes-more (counted row n) k s, counted-none row n (suc k) (s (suc k)) l, counted-votes row n k s (omega (arith, l))))
+
+-- a walk adds what is left to what was gathered
+walk-votes : (row : ℕ → ℕ) (n : ℕ) (s : ℕ → Bool) (k ofSet ofHall : ℕ)
+    → walk row n s k ofSet ofHall ≡ subℕ (2 * (ofSet + votes (counted row n) k s)) (ofHall + total (counted row n) k)
+unfolding walk votes total share
+walk-votes row n s zero ofSet ofHall =
+    let v : ofSet ≡ ofSet + 0 = omega arith in
+    let w : ofHall ≡ ofHall + 0 = omega arith in
+    ap₂ (λ (x y : ℕ). subℕ (2 * x) y) v w
+walk-votes row n s (suc k) ofSet ofHall =
+    let c = counted row n (suc k) in
+    let v : ofSet + share (s (suc k)) c + votes (counted row n) k s ≡ ofSet + votes (counted row n) (suc k) s = omega (arith, votes-more (counted row n) k s) in
+    let w : ofHall + c + total (counted row n) k ≡ ofHall + total (counted row n) (suc k) = omega arith in
+    walk-votes row n s k (ofSet + share (s (suc k)) c) (ofHall + c) ∙ ap₂ (λ (x y : ℕ). subℕ (2 * x) y) v w
+
+-- the walk from m down to 1, of at least n recorders, gives the margin of n
+pub one-walk : (row : ℕ → ℕ) (n : ℕ) (s : ℕ → Bool) (m : ℕ) → n ≤ m → walk row n s m 0 0 ≡ margin row n s
+unfolding margin total
+one-walk row n s m h =
+    let v : 0 + votes (counted row n) m s ≡ votes row n s = omega (arith, counted-votes row n m s h) in
+    let w : 0 + total (counted row n) m ≡ total row n = omega (arith, counted-votes row n m (λ k. true) h) in
+    walk-votes row n s m 0 0 ∙ ap₂ (λ (x y : ℕ). subℕ (2 * x) y) v w
+
+-- its turn at recorder k
+pub walk-turn : (row : ℕ → ℕ) (n : ℕ) (s : ℕ → Bool) (k ofSet ofHall : ℕ) → 1 ≤ k
+    → walk row n s k ofSet ofHall ≡ walk row n s (k - 1) (ofSet + share (s k) (counted row n k)) (ofHall + counted row n k)
+unfolding walk
+walk-turn row n s zero ofSet ofHall h = absurd (omega arith)
+walk-turn row n s (suc k) ofSet ofHall h =
+    let e : suc k - 1 ≡ k = omega arith in
+    ap (λ (j : ℕ). walk row n s j (ofSet + share (s (suc k)) (counted row n (suc k))) (ofHall + counted row n (suc k))) (sym e)
+
 -- ---- the margin's sign and range
 
 -- above 0 just if "twice its votes exceed the votes of recorders 1 to N together"
@@ -74,7 +124,7 @@ pub quorum-votes : (row : ℕ → ℕ) (n : ℕ) (s : ℕ → Bool) → quorum r
 unfolding quorum margin
 quorum-votes row n s = sub-sign (2 * votes row n s) (total row n)
 
-share-most : (t : Bool) (v : ℕ) → share t v ≤ v
+pub share-most : (t : Bool) (v : ℕ) → share t v ≤ v
 unfolding share
 share-most true v = omega arith
 share-most false v = omega arith
@@ -165,12 +215,6 @@ small-vote row small k =
 -- what a recorder with few votes adds
 pub small-share : (v : ℕ) → v ≤ maxVote → (t : Bool) → share t v ≤ maxVote
 small-share v small t = omega (arith, share-most t v)
-
--- 255 is the mask of all
-pub votes-all : (row : ℕ → ℕ) (n : ℕ) → n ≤ 8 → votes row n (inMask 255) ≡ total row n
-unfolding total inMask filter upTo
-votes-all row n h =
-    votes-same row n (inMask 255) (λ k. true) (λ k low high. all-upTo (inMask 255) 8 refl k low (omega arith))
 
 -- ---- the rows that a site may give
 

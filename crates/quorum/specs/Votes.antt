@@ -1,4 +1,4 @@
--- Votes, margins and quorums, and which rows of votes a site may give. 01, "Votes and views"; 02, A1 and A4. The row of votes
+-- Votes, margins and quorums, and which rows of votes a site may give. 01, "Votes and views"; 02, A1, A4 and A6. The row of votes
 -- is an argument; the built-in row is one instance.
 -- A set is given by its test, ℕ → Bool, so that a mask (`inMask b`) and a list (`has xs`) both serve.
 -- Assumes nothing.
@@ -33,6 +33,16 @@ quorum row n s = ltZ (pos 0) (margin row n s)
 unfoldable pub share : Bool → ℕ → ℕ
 share t v = elim t [ true ↦ v | false ↦ 0 ]
 
+-- recorder k's votes that count in a hall of n: none above n
+abbrev pub counted : (ℕ → ℕ) → ℕ → ℕ → ℕ
+counted row n k = share (leb k n) (row k)
+
+-- "walk the recorders a single time, from 8 down to 1, and gather the set's votes and the hall's votes on that walk" (02, A6):
+-- the margin from recorder k on, with the votes of the set and of the hall that were gathered before
+unfoldable pub walk : (ℕ → ℕ) → ℕ → (ℕ → Bool) → ℕ → ℕ → ℕ → ℤ
+walk row n s zero ofSet ofHall = subℕ (2 * ofSet) ofHall
+walk row n s (suc k) ofSet ofHall = walk row n s k (ofSet + share (s (suc k)) (counted row n (suc k))) (ofHall + counted row n (suc k))
+
 -- "Recorder 1 has 2 votes, recorders 2 to 8 have 1 each."
 unfoldable pub builtIn : ℕ → ℕ
 builtIn k = elim (eqb k 1) [ true ↦ 2 | false ↦ 1 ]
@@ -45,7 +55,7 @@ rowOf row k = elim (eqb k 0) [ true ↦ 0 | false ↦ getD row (k - 1) 0 ]
 
 -- the built-in row of n recorders, "eight vote words" (02, A4): 0 above n
 unfoldable pub builtInRow : ℕ → List ℕ
-builtInRow n = map (λ k. share (leb k n) (builtIn k)) (upTo 8)
+builtInRow n = map (counted builtIn n) (upTo 8)
 
 -- "0 to 1,000 each" (02, A4)
 abbrev pub maxVote : ℕ

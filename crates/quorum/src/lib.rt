@@ -1,20 +1,16 @@
-// Sets, votes and margins of a hall, and the rows of votes (document 01, "Votes and views"; 02, A1 and A4). For the crates of
+// Sets, votes and margins of a hall, and the rows of votes (document 01, "Votes and views"; 02, A1, A4 and A6). For the crates of
 // this repository: a `requires` is met by each caller's proof.
 
 ghost use mathlib.Core.Path.{_≡_};
 ghost use mathlib.Core.Bool.{true};
 ghost use Prim.Native.Nat.{ℕ, _-_, _^_, _≤_};
-ghost use lib.Dec.{leb};
 ghost use lib.ListN.{drop};
 ghost use Rattle.quorum.specs.Sets.{inMask};
-ghost use Rattle.quorum.specs.Votes.{votes, margin, share, builtIn, rowOf};
+ghost use Rattle.quorum.specs.Votes.{margin, share, counted, builtIn, rowOf};
 ghost use Rattle.quorum.specs.Votes.{builtInRow, maxVote, smallRow, noVotes, wrongRow};
 
 // "0 to 1,000 each" (02, A4).
 pub const MAX_VOTE: u32 = 1000;
-
-// The set of all eight recorders.
-const ALL: u32 = 255;
 
 // The set of recorders 1 to n.
 pub fn all_of(n: u32) -> u32
@@ -33,44 +29,44 @@ pub fn in_mask(set: u32, k: u32) -> bool
     (set >> i) % 2 == 1
 }
 
-// What recorder k adds to the votes of a set.
-fn vote(row: &[u32; 8], k: u32, set: u32) -> u32
+// v votes if t holds.
+fn share(t: bool, v: u32) -> u32
+    ensures { λ r. ⌜ r ≡ share t v ⌝ }
+{
+    if t { v } else { 0 }
+}
+
+// The votes of recorder k that count in a hall of n: none above n.
+fn vote(row: &[u32; 8], n: u32, k: u32) -> u32
     requires { ⌜ (1 ≤ k) × (k ≤ 8) ⌝ }
-    ensures { λ r. ⌜ r ≡ share (inMask set k) (rowOf (now (row .entry)) k) ⌝ }
+    ensures { λ r. ⌜ r ≡ counted (rowOf (now (row .entry))) n k ⌝ }
 {
-    if in_mask(set, k) {
-        row[k as usize - 1]
-    } else {
-        0
-    }
+    share(k <= n, row[k as usize - 1])
 }
 
-// The votes of recorders 1 to n that are in the set.
-fn votes(row: &[u32; 8], n: u32, set: u32) -> u32
-    requires { ⌜ (n ≤ 8) × ((k : ℕ) → rowOf (now row) k ≤ maxVote) ⌝ }
-    ensures { λ r. ⌜ r ≡ votes (rowOf (now (row .entry))) n (inMask set) ⌝ }
-    ensures small { λ r. ⌜ r ≤ 8000 ⌝ }
-{
-    let mut sum: u32 = 0;
-    let mut k: u32 = 0;
-    while k < n {
-        k += 1;
-        sum += vote(row, k, set);
-    }
-    sum
-}
-
-// The margin of a set: "twice the set's votes less the votes of the whole hall" (02, A1), recorders 1 to n.
+// The margin of a set: "twice the set's votes less the votes of the whole hall" (02, A1), recorders 1 to n. "The count shall
+// walk the recorders a single time, from 8 down to 1, and gather the set's votes and the hall's votes on that walk" (02, A6):
+// each turn reads one recorder's votes, once.
 pub fn margin(row: &[u32; 8], n: u32, set: u32) -> i32
     requires { ⌜ (n ≤ 8) × ((k : ℕ) → rowOf (now row) k ≤ maxVote) ⌝ }
     ensures { λ m. ⌜ m ≡ margin (rowOf (now (row .entry))) n (inMask set) ⌝ }
 {
-    (2 * votes(row, n, set)) as i32 - votes(row, n, ALL) as i32
+    let mut of_set: u32 = 0;
+    let mut of_hall: u32 = 0;
+    let mut k: u32 = 8;
+    while 0 < k {
+        let v = vote(row, n, k);
+        let s = share(in_mask(set, k), v);
+        of_set += s;
+        of_hall += v;
+        k -= 1;
+    }
+    (2 * of_set) as i32 - of_hall as i32
 }
 
 // "Recorder 1 has 2 votes, recorders 2 to 8 have 1 each", and none above n: recorder k's.
 fn built_in(n: u32, k: u32) -> u32
-    ensures { λ r. ⌜ r ≡ share (leb k n) (builtIn k) ⌝ }
+    ensures { λ r. ⌜ r ≡ counted builtIn n k ⌝ }
 {
     if n < k {
         return 0;
