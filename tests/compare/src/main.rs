@@ -33,7 +33,7 @@ const RANDOM: [&[&str]; 2] = [&decisions::RANDOM, &events::BY_ROW];
 const SETTLES: [&[&str]; 1] = [&courses::ANY];
 const ODD_SETTLES: [&[&str]; 2] = [&courses::ANY, &courses::RANDOM];
 
-const TESTS: [Row; 23] = [
+const TESTS: [Row; 24] = [
     ("offsets by hand", offsets::by_hand, 1, &[]),
     ("vectors", vectors::all, 1, &[]),
     ("recorded settles", vectors::settles, 1, &[]),
@@ -42,6 +42,7 @@ const TESTS: [Row; 23] = [
     ("openings with votes", openings::votes, 1, &[]),
     ("any openings", openings::any, 32, &[]),
     ("margins", margins::all, 1, &[]),
+    ("margins of different votes", margins::of_different, 4, &[]),
     ("offsets of halls", offsets::of_halls, 1_000, &[]),
     ("settled runs", settles::opened, 600, &SETTLES),
     ("odd settles", settles::odd, 400, &ODD_SETTLES),

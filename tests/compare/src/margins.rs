@@ -4,7 +4,8 @@
 
 use crate::counts::Counts;
 use crate::pair::{Difference, Pair};
-use crate::rows::{equal, with_vote};
+use crate::random::Random;
+use crate::rows::{different, equal, with_vote};
 use reference::calls::ANSWER_LENGTH;
 use reference::hall::{MOST_RECORDERS, MOST_VOTES};
 use reference::stored::LENGTH;
@@ -33,14 +34,15 @@ fn first(n: u32, row: Votes) -> Votes {
 }
 
 /// Rows for a hall of N: the built-in one, the greatest, one vote alone at the
-/// last recorder, rising votes of which each exceeds all before together, and
-/// others without an order.
-fn rows(n: u32) -> [Votes; 5] {
+/// last recorder, rising and falling votes of which each exceeds all lesser ones
+/// together, and others without an order.
+fn rows(n: u32) -> [Votes; 6] {
     [
         first(n, BUILT_IN),
         equal(n, MOST_VOTES),
         with_vote([0; MOST_RECORDERS as usize], n as usize - 1, 1),
         first(n, [1, 2, 4, 8, 16, 32, 64, 128]),
+        first(n, [128, 64, 32, 16, 8, 4, 2, 1]),
         first(n, [5, 3, 3, 0, 1_000, 257, 0, 740]),
     ]
 }
@@ -165,12 +167,26 @@ fn of_size(size: Size, counts: &mut Counts) -> Result<(), Difference> {
     Ok(())
 }
 
+fn of_row(n: u32, row: Votes, counts: &mut Counts) -> Result<(), Difference> {
+    let say = |what| format!("hall of {n}, votes {row:?}: {what}");
+    of_size(Size { n, row }, counts).map_err(say)
+}
+
 pub fn all(_: u64, counts: &mut Counts) -> Result<(), Difference> {
     for n in 1..=MOST_RECORDERS {
         for row in rows(n) {
-            let say = |what| format!("hall of {n}, votes {row:?}: {what}");
-            of_size(Size { n, row }, counts).map_err(say)?;
+            of_row(n, row, counts)?;
         }
+    }
+    Ok(())
+}
+
+/// Random rows in which no two recorders have the same votes: a count that
+/// misses a recorder or takes one twice gives another margin.
+pub fn of_different(seed: u64, counts: &mut Counts) -> Result<(), Difference> {
+    let mut random = Random::new("margins", seed);
+    for n in 1..=MOST_RECORDERS {
+        of_row(n, different(&mut random, n), counts)?;
     }
     Ok(())
 }

@@ -34,6 +34,20 @@ pub fn with_vote(mut votes: Votes, place: usize, vote: u32) -> Votes {
     votes
 }
 
+/// Votes for recorders 1 to N, none of them 0 and no two the same.
+pub fn different(random: &mut Random, n: u32) -> Votes {
+    let mut votes = [0; MOST_RECORDERS as usize];
+    for place in 0..n as usize {
+        while votes[place] == 0 {
+            let vote = random.between(1, MOST_VOTES);
+            if !votes.contains(&vote) {
+                votes[place] = vote;
+            }
+        }
+    }
+    votes
+}
+
 /// Votes for recorders 1 to N, which may all be 0.
 fn within(random: &mut Random, n: u32) -> Votes {
     let mut votes = [0; MOST_RECORDERS as usize];

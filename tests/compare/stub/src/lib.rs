@@ -151,6 +151,9 @@ pub unsafe extern "C" fn hall_page(
         Some(shown) => calls::page(&shown, r, place, page),
         None => calls::page(hall, r, place, page),
     };
+    if number == 0 {
+        votes::miscount(hall, page);
+    }
     if faulty("the margin of an outsider given as 0") && number == 0 && page[..4] == [0; 4] {
         page[12..16].fill(0);
     }

@@ -4,7 +4,7 @@
 use crate::{faulty, put};
 use reference::actions::{RECEIVE, SAFE};
 use reference::calls::{self, ANSWER_LENGTH};
-use reference::hall::{judge_opening, judge_votes, MOST_VOTES};
+use reference::hall::{judge_opening, judge_votes, margin, MOST_VOTES};
 use reference::runfile::{BLOCK, MOST_BYTES};
 use reference::stored::{self, LENGTH};
 use reference::{built_in_votes, Hall, Opening, Votes};
@@ -22,6 +22,12 @@ fn above(n: u32, mut votes: Votes, change: impl Fn(u32) -> u32) -> Votes {
     for vote in votes.iter_mut().skip(n as usize) {
         *vote = change(*vote);
     }
+    votes
+}
+
+/// The row as a walk counts it that takes the recorder at a place so many times.
+fn times(place: usize, mut votes: Votes, count: u32) -> Votes {
+    votes[place] *= count;
     votes
 }
 
@@ -131,6 +137,12 @@ fn row_of_step(hall: &Hall, k: u32) -> Votes {
         built_in_votes(hall.n)
     } else if faulty("the votes of the next recorder decide") {
         turned(hall.n, hall.votes)
+    } else if faulty("recorder 1 not counted in a step") {
+        times(0, hall.votes, 0)
+    } else if faulty("recorder 8 not counted in a step") {
+        times(7, hall.votes, 0)
+    } else if faulty("recorder 1 counted twice in a step") {
+        times(0, hall.votes, 2)
     } else {
         hall.votes
     }
@@ -179,6 +191,35 @@ pub fn shown(bytes: &[u8]) -> Option<Vec<u8>> {
     }
     hall.votes[0] = hall.votes[0].max(u32::from(hall.votes == [0; 8]));
     Some(stored::form(&hall))
+}
+
+/// The margin of a set, counted wrong; nothing where no such mistake is asked for.
+fn miscounted(votes: Votes, set: u32) -> Option<i32> {
+    let row = if faulty("recorder 1 not counted in the margin") {
+        times(0, votes, 0)
+    } else if faulty("recorder 8 not counted in the margin") {
+        times(7, votes, 0)
+    } else if faulty("recorder 1 counted twice in the margin") {
+        times(0, votes, 2)
+    } else if faulty("the hall's votes taken of the set") {
+        let mut of_set = votes;
+        for (place, vote) in of_set.iter_mut().enumerate() {
+            *vote *= set >> place & 1;
+        }
+        of_set
+    } else {
+        return None;
+    };
+    Some(margin(&row, set))
+}
+
+/// Puts a margin that was counted wrong on the page of a hall.
+pub fn miscount(hall: &[u8], page: &mut [u8]) {
+    let set = word_at(page, 4);
+    let wrong = stored::read(hall).and_then(|hall| miscounted(hall.votes, set));
+    if let Some(margin) = wrong {
+        page[12..16].copy_from_slice(&margin.to_le_bytes());
+    }
 }
 
 /// The word at an offset.
