@@ -70,6 +70,7 @@ unfolding share
 counted-none row n k true h = rw (lt-leb k n h)
 counted-none row n k false h = refl
 
+-- those up to n add what they have
 counted-same : (row : ℕ → ℕ) (n k : ℕ) (s : ℕ → Bool) → k ≡ n → votes (counted row n) k s ≡ votes row n s
 unfolding share
 counted-same row n k s e =

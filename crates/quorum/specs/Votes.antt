@@ -1,5 +1,5 @@
--- Votes, margins and quorums, and which rows of votes a site may give. 01, "Votes and views"; 02, A1, A4 and A6. The row of votes
--- is an argument; the built-in row is one instance.
+-- Votes, margins and quorums, and which rows of votes a site may give. 01, "Votes and views"; 02, A1, A4 and A6. The row of
+-- votes is an argument; the built-in row is one instance.
 -- A set is given by its test, ℕ → Bool, so that a mask (`inMask b`) and a list (`has xs`) both serve.
 -- Assumes nothing.
 use Prim.Native.Nat.{ℕ, zero, suc, _+_, _-_, _*_}
@@ -41,7 +41,9 @@ counted row n k = share (leb k n) (row k)
 -- the margin from recorder k on, with the votes of the set and of the hall that were gathered before
 unfoldable pub walk : (ℕ → ℕ) → ℕ → (ℕ → Bool) → ℕ → ℕ → ℕ → ℤ
 walk row n s zero ofSet ofHall = subℕ (2 * ofSet) ofHall
-walk row n s (suc k) ofSet ofHall = walk row n s k (ofSet + share (s (suc k)) (counted row n (suc k))) (ofHall + counted row n (suc k))
+walk row n s (suc k) ofSet ofHall =
+    let v = counted row n (suc k) in
+    walk row n s k (ofSet + share (s (suc k)) v) (ofHall + v)
 
 -- "Recorder 1 has 2 votes, recorders 2 to 8 have 1 each."
 unfoldable pub builtIn : ℕ → ℕ

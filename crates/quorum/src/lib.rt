@@ -1,5 +1,5 @@
-// Sets, votes and margins of a hall, and the rows of votes (document 01, "Votes and views"; 02, A1, A4 and A6). For the crates of
-// this repository: a `requires` is met by each caller's proof.
+// Sets, votes and margins of a hall, and the rows of votes (document 01, "Votes and views"; 02, A1, A4 and A6). For the crates
+// of this repository: a `requires` is met by each caller's proof.
 
 ghost use mathlib.Core.Path.{_≡_};
 ghost use mathlib.Core.Bool.{true};
