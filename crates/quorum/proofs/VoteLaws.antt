@@ -52,11 +52,14 @@ votes-agree row row′ (suc n) s t f g =
 pub votes-same : (row : ℕ → ℕ) (n : ℕ) (s t : ℕ → Bool) → Same n s t → votes row n s ≡ votes row n t
 votes-same row n s t = votes-agree row row n s t (λ k low high. refl)
 
+-- a margin by its two sums
+by-sums : {v v′ w w′ : ℕ} → v ≡ v′ → w ≡ w′ → subℕ (2 * v) w ≡ subℕ (2 * v′) w′
+by-sums e f = ap₂ (λ (x y : ℕ). subℕ (2 * x) y) e f
+
 pub margin-agree : (row row′ : ℕ → ℕ) (n : ℕ) (s t : ℕ → Bool) → Same n row row′ → Same n s t → margin row n s ≡ margin row′ n t
 unfolding margin total
 margin-agree row row′ n s t f g =
-    ap₂ (λ (v w : ℕ). subℕ (2 * v) w) (votes-agree row row′ n s t f g)
-    (votes-agree row row′ n (λ k. true) (λ k. true) f (λ k low high. refl))
+    by-sums (votes-agree row row′ n s t f g) (votes-agree row row′ n (λ k. true) (λ k. true) f (λ k low high. refl))
 
 pub margin-members : (row : ℕ → ℕ) (n b : ℕ) → margin row n (inMask b) ≡ margin row n (has (members n b))
 margin-members row n b =
@@ -78,7 +81,6 @@ counted-same row n k s e =
 
 -- so all votes that count are those of 1 to n
 counted-votes : (row : ℕ → ℕ) (n k : ℕ) (s : ℕ → Bool) → n ≤ k → votes (counted row n) k s ≡ votes row n s
-unfolding share
 counted-votes row n zero s h = counted-same row n 0 s (omega arith)
 counted-votes row n (suc k) s h =
     by-cases (leb (suc k) n)
@@ -94,12 +96,12 @@ unfolding walk votes total share
 walk-votes row n s zero ofSet ofHall =
     let v : ofSet ≡ ofSet + 0 = omega arith in
     let w : ofHall ≡ ofHall + 0 = omega arith in
-    ap₂ (λ (x y : ℕ). subℕ (2 * x) y) v w
+    by-sums v w
 walk-votes row n s (suc k) ofSet ofHall =
     let c = counted row n (suc k) in
     let v : ofSet + share (s (suc k)) c + votes (counted row n) k s ≡ ofSet + votes (counted row n) (suc k) s = omega (arith, votes-more (counted row n) k s) in
     let w : ofHall + c + total (counted row n) k ≡ ofHall + total (counted row n) (suc k) = omega arith in
-    walk-votes row n s k (ofSet + share (s (suc k)) c) (ofHall + c) ∙ ap₂ (λ (x y : ℕ). subℕ (2 * x) y) v w
+    walk-votes row n s k (ofSet + share (s (suc k)) c) (ofHall + c) ∙ by-sums v w
 
 -- the walk from m down to 1, of at least n recorders, gives the margin of n
 pub one-walk : (row : ℕ → ℕ) (n : ℕ) (s : ℕ → Bool) (m : ℕ) → n ≤ m → walk row n s m 0 0 ≡ margin row n s
@@ -107,7 +109,7 @@ unfolding margin total
 one-walk row n s m h =
     let v : 0 + votes (counted row n) m s ≡ votes row n s = omega (arith, counted-votes row n m s h) in
     let w : 0 + total (counted row n) m ≡ total row n = omega (arith, counted-votes row n m (λ k. true) h) in
-    walk-votes row n s m 0 0 ∙ ap₂ (λ (x y : ℕ). subℕ (2 * x) y) v w
+    walk-votes row n s m 0 0 ∙ by-sums v w
 
 -- its turn at recorder k
 pub walk-turn : (row : ℕ → ℕ) (n : ℕ) (s : ℕ → Bool) (k ofSet ofHall : ℕ) → 1 ≤ k
