@@ -1,5 +1,5 @@
 -- Laws of specs/Bounded. Assumes nothing.
-use Prim.Native.Nat.{ℕ, suc, _+_, _-_, _*_, _%_, _<_}
+use Prim.Native.Nat.{ℕ, suc, _+_, _-_, _*_, _%_, _^_, _<_}
 use native.Mathlib.Omega.{arith}
 use native.Mathlib.Nat.{not-suc-le-zero, le-of-suc-le-suc}
 use mathlib.Core.Path.{_≡_, refl, sym, ap, ap₂, _∙_}
@@ -14,14 +14,14 @@ use Rattle.codec.proofs.BytesLaws.{sets-between}
 use Rattle.codec.specs.Form.{Form, mapped}
 use Rattle.codec.proofs.FormLaws.{Lawful, Inverse, mapped-lawful}
 use Rattle.codec.specs.Number.{number, byte, digits, value, between}
-use Rattle.codec.proofs.NumberLaws.{byte-lawful}
+use Rattle.codec.proofs.NumberLaws.{number-lawful, byte-lawful}
 use Rattle.codec.specs.Pair.{given}
 use Rattle.codec.proofs.PairLaws.{given-lawful}
 use Rattle.base.specs.Lists.{Each}
 use Rattle.codec.proofs.CellsLaws.{suc-cells, Each-append, encodeAll-append, encodeAll-cons, encodeAll-nil, cells-lawful, block-encodeAll}
 use Rattle.codec.specs.Cells.{encodeAll, validAll, decodeAll, cells}
 use Rattle.codec.proofs.Piece.{View, Piece, head, tail, cell, inner, mapped-view, mapped-piece, restated, whatever}
-use Rattle.codec.specs.Bounded.{Within, counted, bounded, Maybe, toOption, fromOption, optional}
+use Rattle.codec.specs.Bounded.{Within, counted, listed, bounded, Maybe, toOption, fromOption, optional}
 
 -- ## The bounds of a list of any capacity
 
@@ -45,8 +45,8 @@ within-map {A} {P} {Q} xs k w = (w .0, each xs (w .1))
     each [] a = tt
     each (x ∷ xs) a = (k x (a .0), each xs (a .1))
 
-module _ {A : Type 0} {k : ℕ} (F : Form A k) (cap : ℕ) where
-  counts : Inverse (counted F cap) (λ p. p .1) (λ xs. (length xs, xs)) (Within (F .ok) cap)
+module _ {A : Type 0} {k : ℕ} (n : ℕ) (F : Form A k) (cap : ℕ) where
+  counts : Inverse (counted n F cap) (λ p. p .1) (λ xs. (length xs, xs)) (Within (F .ok) cap)
   unfolding given number cells
   counts =
       record {
@@ -56,6 +56,14 @@ module _ {A : Type 0} {k : ℕ} (F : Form A k) (cap : ℕ) where
         from-to = λ p h. λ i. (h .1 .0 i, p .1);
       }
 
+  pub listed-lawful : Lawful F → cap < 256 ^ n → Lawful (listed n F cap)
+  unfolding number
+  listed-lawful L h =
+      mapped-lawful (counted n F cap) (λ p. p .1) (λ xs. (length xs, xs)) (Within (F .ok) cap)
+      (given-lawful (number n 0 0 cap) (λ m. cells F m cap) (number-lawful n 0 0 cap (omega arith) (omega arith)) (λ m r. cells-lawful F L m cap (r .1)))
+      counts
+
+module _ {A : Type 0} {k : ℕ} (F : Form A k) (cap : ℕ) where
   -- the bytes of a list
   pub bounded-encode : (xs : List A) → length xs < 256
       → bounded F cap .encode xs ≡ length xs ∷ (encodeAll F xs ++ zeros ((cap - length xs) * k))
@@ -82,17 +90,14 @@ module _ {A : Type 0} {k : ℕ} (F : Form A k) (cap : ℕ) where
 
   module _ (L : Lawful F) (h : cap < 256) where
     pub bounded-lawful : Lawful (bounded F cap)
-    unfolding bounded number
-    bounded-lawful =
-        mapped-lawful (counted F cap) (λ p. p .1) (λ xs. (length xs, xs)) (Within (F .ok) cap)
-        (given-lawful (byte 0 cap) (λ m. cells F m cap) (byte-lawful 0 cap h) (λ m r. cells-lawful F L m cap (r .1)))
-        counts
+    unfolding bounded
+    bounded-lawful = listed-lawful 1 F cap L h
 
     -- the count stands first
     pub bounded-count : View (bounded F cap) (byte 0 cap) 0 (λ xs. Unit {0}) length
     unfolding bounded
     bounded-count =
-        mapped-view (λ p. p .1) (λ xs. (length xs, xs)) (Within (F .ok) cap) counts (head (byte 0 cap) (λ m. cells F m cap))
+        mapped-view (λ p. p .1) (λ xs. (length xs, xs)) (Within (F .ok) cap) (counts 1 F cap) (head (byte 0 cap) (λ m. cells F m cap))
 
     -- and then element i
     pub bounded-cell : (i : ℕ) (d : A) → Piece (bounded F cap) F (1 + i * k) (λ xs. i < length xs) (λ xs. getD xs i d) (λ xs x. set xs i x)
@@ -102,7 +107,7 @@ module _ {A : Type 0} {k : ℕ} (F : Form A k) (cap : ℕ) where
         at : (m : ℕ) → i < m → Piece (bounded F cap) F (1 + i * k) (λ xs. length xs ≡ m) (λ xs. getD xs i d) (λ xs x. set xs i x)
         at m j =
             restated
-            (mapped-piece (λ p. p .1) (λ xs. (length xs, xs)) (Within (F .ok) cap) counts
+            (mapped-piece (λ p. p .1) (λ xs. (length xs, xs)) (Within (F .ok) cap) (counts 1 F cap)
             (inner (tail (byte 0 cap) (λ m. cells F m cap) (byte-lawful 0 cap h) m) (cell F L m cap i d j)))
             (λ xs. length xs ≡ m) (λ xs. getD xs i d) (λ xs x. set xs i x) (λ xs o e. (e, tt)) (λ xs o e. refl) (λ xs x o e g. refl)
 

@@ -51,14 +51,14 @@ module _ (lo hi i t : ℕ) (b : List ℕ) where
 
 -- what the code writes, reads and tests is the form of a bounded list of bytes
 module _ (lo hi : ℕ) where
-  encode-bytes : hi < 256 → (xs : List ℕ) → Each (byte lo hi .ok) xs → encodeAll (byte lo hi) xs ≡ xs
+  pub encode-bytes : hi < 256 → (xs : List ℕ) → Each (byte lo hi .ok) xs → encodeAll (byte lo hi) xs ≡ xs
   unfolding number encodeAll
   encode-bytes h [] a = refl
   encode-bytes h (x ∷ xs) a =
       let e : x - 0 ≡ x = omega arith in
       ap₂ _++_ (ap (digits 1) e ∙ digits-byte x (omega (arith, a .0 .1))) (encode-bytes h xs (a .1))
 
-  decode-bytes : (m : ℕ) (b : List ℕ) → m ≤ length b → decodeAll (byte lo hi) m b ≡ take m b
+  pub decode-bytes : (m : ℕ) (b : List ℕ) → m ≤ length b → decodeAll (byte lo hi) m b ≡ take m b
   unfolding number decodeAll value
   decode-bytes zero b h = refl
   decode-bytes (suc m) [] h = absurd (not-suc-le-zero h)
@@ -66,7 +66,7 @@ module _ (lo hi : ℕ) where
       let e : x + 0 + 0 ≡ x = omega arith in
       ap₂ _∷_ e (decode-bytes m xs (le-of-suc-le-suc h))
 
-  valid-bytes : (m : ℕ) (b : List ℕ) → m ≤ length b → validAll (byte lo hi) m b ≡ allIn lo hi (take m b)
+  pub valid-bytes : (m : ℕ) (b : List ℕ) → m ≤ length b → validAll (byte lo hi) m b ≡ allIn lo hi (take m b)
   unfolding number validAll value allIn
   valid-bytes zero b h = refl
   valid-bytes (suc m) [] h = absurd (not-suc-le-zero h)

@@ -4,13 +4,13 @@ use native.Mathlib.Omega.{arith}
 use native.Mathlib.Nat.{add-zero, add-suc, suc-add}
 use native.Mathlib.Numerals.{add-one, add-two, add-three}
 use mathlib.Core.Path.{_≡_, refl, sym, ap, ap₂, _∙_}
-use mathlib.Core.Bool.{Bool, true, _&&_, and-eq-true-iff, and-true, and-assoc}
+use mathlib.Core.Bool.{Bool, true, _&&_, and-eq-true-iff, and-true, and-assoc, true≢false}
 use mathlib.Core.List.{List, [], _∷_, _++_, append-assoc}
 use lib.Dec.{eqb, lit<}
 use lib.ListN.{length, getD, take, drop, set, length-append, length-take, length-drop, length-replicate, replicate-append-replicate}
 use lib.Seq.{sets, sets-eq, take-at, drop-at, drop-drop, drop-cons, take-suc, take-suc-set, take-take, take-all, getD-drop}
-use borrow.Author.Tests.{eqb-true}
-use Rattle.codec.specs.Bytes.{Block, part, zeros, allZero}
+use borrow.Author.Tests.{eqb-true, eq-eqb}
+use Rattle.codec.specs.Bytes.{Block, part, zeros, allZero, sameBytes}
 
 pub allZero-replicate : (n : ℕ) → allZero (zeros n) ≡ true
 unfolding allZero
@@ -110,6 +110,15 @@ put-step l f i s b h e =
     ∙ sets-snoc l f (f + i) (take i s) (getD s i 0) n
     ∙ ap (sets l f) (sym (ap (λ (j : ℕ). take j s) (add-one i) ∙ take-suc s i 0 h))
 
+-- a loop that has copied i bytes of s from an offset
+pub copy-step : (l : List ℕ) (f o i : ℕ) (s b : List ℕ) → o + i < length s → b ≡ sets l f (part o i s)
+    → set b (f + i) (getD s (o + i) 0) ≡ sets l f (part o (i + 1) s)
+copy-step l f o i s b h e =
+    let long : length (part o i s) ≡ i = length-take i (drop o s) ∙ simp length-drop (omega arith) in
+    ap (λ (z : List ℕ). set z (f + i) (getD s (o + i) 0)) e
+    ∙ sets-snoc l f (f + i) (part o i s) (getD s (o + i) 0) (omega arith)
+    ∙ ap (sets l f) (sym (part-snoc o i s h)) ∙ ap (λ (n : ℕ). sets l f (part o n s)) (sym (add-one i))
+
 pub get-step : (p : List ℕ) (f i : ℕ) (b : List ℕ) → i < length p → f + i < length b → take i p ≡ part f i b
     → take (i + 1) (set p i (getD b (f + i) 0)) ≡ part f (i + 1) b
 get-step p f i b h k e =
@@ -173,3 +182,36 @@ module _ (p q r : List ℕ) (o n : ℕ) (ho : length p ≡ o) (hq : length q ≡
       let back : drop (o + length x) l ≡ r =
       sym (drop-drop (length x) o l) ∙ ap (drop (length x)) (drop-at p (q ++ r) o ho) ∙ drop-at q r (length x) (hq ∙ sym hx) in
       sets-eq x l o room ∙ ap₂ (λ (f b : List ℕ). f ++ x ++ b) front back ∙ append-assoc p x r
+
+-- ## Two lists compared
+
+pub same-refl : (a : List ℕ) → sameBytes a a ≡ true
+unfolding sameBytes
+same-refl [] = refl
+same-refl (x ∷ xs) = and-eq-true-iff (eqb x x) (sameBytes xs xs) .1 (eq-eqb x x refl, same-refl xs)
+
+pub same-eq : (a b : List ℕ) → sameBytes a b ≡ true → a ≡ b
+unfolding sameBytes
+same-eq [] [] h = refl
+same-eq [] (y ∷ ys) h = absurd (true≢false (sym h))
+same-eq (x ∷ xs) [] h = absurd (true≢false (sym h))
+same-eq (x ∷ xs) (y ∷ ys) h =
+    let p = and-eq-true-iff (eqb x y) (sameBytes xs ys) .0 h in
+    ap₂ _∷_ (eqb-true x y (p .0)) (same-eq xs ys (p .1))
+
+pub same-snoc : (a b : List ℕ) (x y : ℕ) → length a ≡ length b → sameBytes (a ++ (x ∷ [])) (b ++ (y ∷ [])) ≡ sameBytes a b && eqb x y
+unfolding sameBytes
+same-snoc [] [] x y e = and-true (eqb x y)
+same-snoc [] (v ∷ vs) x y e = absurd (omega arith)
+same-snoc (u ∷ us) [] x y e = absurd (omega arith)
+same-snoc (u ∷ us) (v ∷ vs) x y e = ap (λ (t : Bool). eqb u v && t) (same-snoc us vs x y (omega arith)) ∙ sym (and-assoc (eqb u v) (sameBytes us vs) (eqb x y))
+
+-- the same for a loop that has passed i bytes
+pub same-step : (a b : List ℕ) (i : ℕ) → i < length a → i < length b
+    → sameBytes (take (i + 1) a) (take (i + 1) b) ≡ sameBytes (take i a) (take i b) && eqb (getD a i 0) (getD b i 0)
+same-step a b i h k =
+    let la : length (take i a) ≡ i = length-take i a ∙ omega arith in
+    let lb : length (take i b) ≡ i = length-take i b ∙ omega arith in
+    ap (λ (n : ℕ). sameBytes (take n a) (take n b)) (add-one i)
+    ∙ ap₂ sameBytes (take-suc a i 0 h) (take-suc b i 0 k)
+    ∙ same-snoc (take i a) (take i b) (getD a i 0) (getD b i 0) (omega arith)

@@ -6,6 +6,7 @@ pub mod Blank
 pub mod TableLaws
 pub mod NumberLaws
 pub mod BytesLaws
+pub mod PutBack
 pub mod CellsLaws
 pub mod Piece
 pub mod SliceLaws

@@ -1,4 +1,5 @@
 pub mod Bytes
+pub mod Covers
 pub mod Form
 pub mod Number
 pub mod Pair

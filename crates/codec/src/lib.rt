@@ -12,7 +12,7 @@ ghost use lib.Seq.{sets};
 ghost use Rattle.base.specs.Lists.{bit, countOf, nth};
 ghost use Rattle.base.specs.Numbers.{upTo};
 ghost use Rattle.base.specs.Update.{upd};
-ghost use Rattle.codec.specs.Bytes.{part, zeros, allZero};
+ghost use Rattle.codec.specs.Bytes.{part, zeros, allZero, sameBytes};
 ghost use Rattle.codec.specs.Number.{digits, value, byte, between};
 ghost use Rattle.codec.specs.Bounded.{bounded};
 ghost use Rattle.codec.specs.ByteList.{items, listAt, listBytes, allIn, listCapacity};
@@ -111,16 +111,50 @@ pub fn clear(b: &mut [u8], from: usize, to: usize)
     }
 }
 
+// Writes n bytes of s, from an offset of it on, at an offset.
+pub fn copy_bytes(b: &mut [u8], at: usize, s: &[u8], from: usize, n: usize)
+    requires { ⌜ (from + n ≤ length (now s)) × (at + n ≤ length (now b)) ⌝ }
+    ensures { λ _. ⌜ now (b .exit) ≡ sets (now (b .entry)) at (part from n (now (s .entry))) ⌝ }
+{
+    let mut i = 0;
+    while i < n {
+        b[at + i] = s[from + i];
+        i += 1;
+    }
+}
+
 // Writes the first n bytes of s at an offset.
 pub fn put_bytes(b: &mut [u8], at: usize, s: &[u8], n: usize)
     requires { ⌜ (n ≤ length (now s)) × (at + n ≤ length (now b)) ⌝ }
     ensures { λ _. ⌜ now (b .exit) ≡ sets (now (b .entry)) at (take n (now (s .entry))) ⌝ }
 {
+    copy_bytes(b, at, s, 0, n);
+}
+
+// Moves n bytes down, from an offset to another.
+pub fn move_down(b: &mut [u8], to: usize, from: usize, n: usize)
+    requires { ⌜ (to ≤ from) × (from + n ≤ length (now b)) ⌝ }
+    ensures { λ _. ⌜ now (b .exit) ≡ sets (now (b .entry)) to (part from n (now (b .entry))) ⌝ }
+{
     let mut i = 0;
     while i < n {
-        b[at + i] = s[i];
+        b[to + i] = b[from + i];
         i += 1;
     }
+}
+
+// Are the first n bytes of two slices the same?
+pub fn same(a: &[u8], b: &[u8], n: usize) -> bool
+    requires { ⌜ (n ≤ length (now a)) × (n ≤ length (now b)) ⌝ }
+    ensures { λ r. ⌜ r ≡ sameBytes (take n (now (a .entry))) (take n (now (b .entry))) ⌝ }
+{
+    let mut all = true;
+    let mut i = 0;
+    while i < n {
+        all = all & (a[i] == b[i]);
+        i += 1;
+    }
+    all
 }
 
 // 0 for a byte in lo .. hi, else 1.

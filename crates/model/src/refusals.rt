@@ -42,3 +42,5 @@ pub const NOT_YET: u32 = 39;
 pub const FULL: u32 = 40;
 // the greatest view is missing or not primary (02, A5)
 pub const NOT_PRIMARY: u32 = 42;
+// the undo buffer is too short or not in its form, none is held, or the newest held does not lead to this hall (02, A7)
+pub const UNDO: u32 = 43;
