@@ -1,0 +1,10 @@
+pub mod BufferLaws
+pub mod EmptyBuffer
+pub mod Covering
+pub mod Judging
+pub mod KindsCover
+pub mod PartsCover
+pub mod FindingParts
+pub mod PartAt
+pub mod SlotAt
+pub mod Rooms
