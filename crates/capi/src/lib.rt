@@ -1,4 +1,4 @@
-// The C interface (include/hall.h): open, step, settle, page and run files, on numbers and slices. Each function returns 0 or
+// The C interface (include/hall.h): open, step, settle, step back, page and run files, on numbers and slices. Each function returns 0 or
 // the number of the refusal. An answer is words in a lent slice.
 ghost use mathlib.Core.Path.{_≡_};
 ghost use mathlib.Core.List.{[], _∷_};
@@ -6,10 +6,15 @@ ghost use Rattle.calls.specs.Calls.{openOn};
 ghost use Rattle.model.specs.Opening.{openingOf};
 ghost use Rattle.model.specs.Call.{wordsOf};
 ghost use Rattle.calls.specs.Lent.{stepLent, pageLent, settleLent, Leaves};
+ghost use Rattle.stepback.specs.Held.{benchOf};
+ghost use Rattle.stepback.specs.Lent.{stepHeldLent, settleHeldLent, LeavesHeld};
+ghost use Rattle.stepback.specs.Steps.{StepsBack};
 ghost use Rattle.calls.specs.RunsLent.{runReadLent, runActionLent, runWriteLent};
 ghost use Rattle.runfile.specs.Answers.{openingWith, runOf};
 use marshal::page_into;
+use marshal::settle_held_into;
 use marshal::settle_into;
+use marshal::step_held_into;
 use marshal::step_into;
 use marshal_runs::run_action_into;
 use marshal_runs::run_read_into;
@@ -17,6 +22,7 @@ use marshal_runs::run_write_into;
 use opening::open;
 use runfile::FileOpening;
 use runfile::Votes;
+use stepback::step_back;
 
 // Opens a hall of n recorders with the founders of a word and the votes of recorders 1 to 8.
 #[no_mangle]
@@ -64,6 +70,41 @@ pub extern "C" fn hall_settle(hall: &mut [u8], answer: &mut [u8]) -> u32
         n (now (hall .exit)) (now (answer .exit)) ⌝ }
 {
     settle_into(hall, answer)
+}
+
+// A step that is held in an undo buffer (02, A7).
+#[no_mangle]
+pub extern "C" fn hall_step_held(
+    hall: &mut [u8],
+    undo: &mut [u8],
+    k: u32,
+    r: u32,
+    a: u32,
+    b: u32,
+    answer: &mut [u8],
+) -> u32
+    ensures { λ n. ⌜ LeavesHeld
+        (stepHeldLent (benchOf (now (hall .entry)) (now (undo .entry))) (wordsOf k r a b) (now (answer .entry)))
+        n (now (hall .exit)) (now (undo .exit)) (now (answer .exit)) ⌝ }
+{
+    step_held_into(hall, undo, k, r, a, b, answer)
+}
+
+// A settle whose actions are held in an undo buffer.
+#[no_mangle]
+pub extern "C" fn hall_settle_held(hall: &mut [u8], undo: &mut [u8], answer: &mut [u8]) -> u32
+    ensures { λ n. ⌜ LeavesHeld (settleHeldLent (benchOf (now (hall .entry)) (now (undo .entry))) (now (answer .entry)))
+        n (now (hall .exit)) (now (undo .exit)) (now (answer .exit)) ⌝ }
+{
+    settle_held_into(hall, undo, answer)
+}
+
+// Takes the newest action of an undo buffer back.
+#[no_mangle]
+pub extern "C" fn hall_step_back(hall: &mut [u8], undo: &mut [u8]) -> u32
+    ensures { λ n. ⌜ StepsBack (now (hall .entry)) (now (undo .entry)) n (now (hall .exit)) (now (undo .exit)) ⌝ }
+{
+    step_back(hall, undo)
 }
 
 // The page of recorder r with a place of its order.

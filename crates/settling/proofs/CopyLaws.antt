@@ -78,7 +78,7 @@ settle-barred : (h : Hall) → cannotSettle h ≡ true → settle hl3 h ≡ refu
 unfolding settle by-barred
 settle-barred h t = ap (by-barred h) t
 
-settle-goes : (h : Hall) → cannotSettle h ≡ false → settle hl3 h ≡ settleFrom hl3 maxTurns (greatestView h) h
+pub settle-goes : (h : Hall) → cannotSettle h ≡ false → settle hl3 h ≡ settleFrom hl3 maxTurns (greatestView h) h
 unfolding settle by-barred
 settle-goes h t = ap (by-barred h) t
 
@@ -128,7 +128,7 @@ front-written n xs b l few =
     let at : 0 + length xs ≡ n = omega arith in
     sets-eq xs b 0 (omega arith) ∙ ap (λ k. xs ++ drop k b) at
 
-whole-written : (n : ℕ) (xs w : List ℕ) → length xs ≡ n → length w ≡ n → sets w 0 xs ≡ xs
+pub whole-written : (n : ℕ) (xs w : List ℕ) → length xs ≡ n → length w ≡ n → sets w 0 xs ≡ xs
 whole-written n xs w l m =
     front-written n xs w l (omega arith) ∙ ap (λ k. xs ++ drop k w) (sym m) ∙ ap (λ (r : List ℕ). xs ++ r) (drop-length w) ∙ append-nil xs
 
@@ -151,7 +151,7 @@ module _ (b : List ℕ) (s : isStored b ≡ true) where
   run-first ws low =
       sym (ap (take storedLength) (run-whole ws low) ∙ take-at (stored (run hl3 h ws)) rest storedLength (stored-block (run hl3 h ws) (run-valid hl3 h ws low valid) .len))
 
-  run-copy : (ws : List Words) → WordsIn ws → runOn (take storedLength b) ws ≡ take storedLength (runOn b ws)
+  pub run-copy : (ws : List Words) → WordsIn ws → runOn (take storedLength b) ws ≡ take storedLength (runOn b ws)
   run-copy ws low =
       ap (λ (x : List ℕ). runOn x ws) (sym (stored-hallOf b s) ∙ sym (append-nil (stored h)))
       ∙ run-stored h [] ws valid low .0 ∙ append-nil (stored (run hl3 h ws)) ∙ run-first ws low

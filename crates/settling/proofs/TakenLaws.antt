@@ -2,16 +2,18 @@
 use Prim.Native.Nat.{ℕ, suc, _+_, _-_, _^_, _≤_, _<_}
 use native.Mathlib.Omega.{arith}
 use mathlib.Core.Path.{_≡_, refl, sym, ap, ap₂, _∙_, subst}
+use mathlib.Core.Bool.{true}
 use mathlib.Core.List.{List, [], _∷_, _++_}
 use lib.ListN.{length, length-append}
+use borrow.Author.Tests.{eq-eqb}
 use Rattle.quorum.specs.Sets.{members, mask}
 use Rattle.model.specs.Hall.{Hall}
-use Rattle.model.specs.Answers.{Plain}
+use Rattle.model.specs.Answers.{Answer, Plain, plain, accepted}
 use Rattle.model.specs.Actions.{Outcome}
 use Rattle.model.specs.Call.{Words, hl3, step}
 use Rattle.model.specs.Settle as model
 use Rattle.model.specs.Settle.{greatestView, settleCall, settleCalls, takes, full, none, turnOf, Settling, settled, refused, andThen, callsTaken, plainSettle, maxTurns, settleFrom}
-use Rattle.model.proofs.Settling.TurnLaws.{Finds, finds, call-of}
+use Rattle.model.proofs.Settling.TurnLaws.{Found, Finds, finds, call-of}
 use Rattle.model.proofs.Settling.SettleRun.{call-low}
 use Rattle.model.proofs.Settling.ViewsKept.{SameViews, settle-views, same-greatest}
 use Rattle.store.specs.Valid.{ValidHall}
@@ -21,7 +23,7 @@ use Rattle.store.proofs.MasksLaws.{members-mask}
 use Rattle.answer.specs.declared.Settled.{Settled}
 use Rattle.answer.specs.Meaning.{settledMeaning}
 use Rattle.calls.specs.Calls.{stepOn, runOn}
-use Rattle.calls.proofs.HeldSteps.{step-holds, step-hall}
+use Rattle.calls.proofs.HeldSteps.{step-answer, step-holds, step-hall}
 use Rattle.progress.specs.AnyTurn.{anyTurn}
 use Rattle.progress.proofs.GreatestView.{greatest-number, members-rise, members-in}
 use Rattle.progress.proofs.AllEntered.{turn-any}
@@ -67,6 +69,10 @@ pub record Going (b : List ℕ) (v : View) (count : ℕ) (c : List ℕ) : Type 0
 pub going-none : (b : List ℕ) (v : View) → InView b v → Going b v 0 b
 unfolding before runOn
 going-none b v i = record { taken = []; many = refl; bytes = refl; inView = i; left = refl }
+
+pub none-taken : (b : List ℕ) (v : View) (i : InView b v) → going-none b v i .taken ≡ []
+unfolding going-none
+none-taken b v i = refl
 
 -- what a turn of the code finds is what a turn of the definition finds
 module _ (c : List ℕ) (v : View) (i : InView c v) (t : Turn)
@@ -126,11 +132,23 @@ module _ (b : List ℕ) (v : View) (count : ℕ) (c : List ℕ) (go : Going b v 
     unfolding found
     found-it = sym (is-turn c v (go .inView) t is) ∙ ap (found number) takes-it
 
-    same : SameViews here (step hl3 here w .hall)
+    finds-it : Found hl3 here number (settleCalls number (here .service .members number)) w 0
     unfolding turnOf Finds
+    finds-it =
+        subst (Finds hl3 here number (settleCalls number (here .service .members number))) found-it
+        (finds hl3 here number (settleCalls number (here .service .members number)))
+
+    -- it is accepted
+    pub taken-accepts : accepted (stepOn c w .answer) ≡ true
+    unfolding accepted
+    taken-accepts = eq-eqb _ 0 (ap (λ (x : Answer). plain x .number) (step-answer c (go .inView .holds) w) ∙ finds-it .number)
+
+    pub taken-low : w .a < 2 ^ 32
+    taken-low = call-low number k r low
+
+    same : SameViews here (step hl3 here w .hall)
     same =
-        let f = subst (Finds hl3 here number (settleCalls number (here .service .members number))) found-it
-        (finds hl3 here number (settleCalls number (here .service .members number))) in
+        let f = finds-it in
         let x = call-of number (here .service .members number) (f .before) (f .after) w (f .split) in
         subst (λ (u : Words). SameViews here (step hl3 here u .hall)) (sym (x .words)) (settle-views hl3 here number (x .kind) (x .recorder) (x .listed))
 
@@ -160,6 +178,10 @@ module _ (b : List ℕ) (v : View) (count : ℕ) (c : List ℕ) (go : Going b v 
               ∙ ap (λ (x : Hall). before (go .taken ++ (w ∷ [])) (settleFrom hl3 (maxTurns - (count + 1)) number x)) (sym hall-is);
         }
 
+    pub next-taken : (d : List ℕ) (e : d ≡ stepOn c w .bytes) → going-next d e .taken ≡ go .taken ++ (w ∷ [])
+    unfolding going-next
+    next-taken d e = refl
+
   -- it meets 40
   pub going-full : t ≡ Turn.Full → (x : Settled) → x ≡ Settled.Refused 40 → TurnsTaken b v x c
   unfolding settledMeaning afterTurn found plainSettle
@@ -170,23 +192,33 @@ module _ (b : List ℕ) (v : View) (count : ℕ) (c : List ℕ) (go : Going b v 
         bytes = λ z. let n : _≡_ {A = ℕ} 40 0 = sym (ap (λ (y : Settled). settledMeaning y .number) e) ∙ z in absurd (omega arith);
       }
 
-  -- none is left
+  -- none is left: these are the settle's calls
+  pub whole-done : t ≡ Turn.Nothing → settleFrom hl3 maxTurns number (hallOf b) ≡ settled (go .taken)
+  unfolding afterTurn found
+  whole-done f = left-is ∙ ap (λ (u : Turn). before (go .taken) (afterTurn (found number u))) f ∙ before-settled (go .taken)
+
   pub going-done : t ≡ Turn.Nothing → (x : Settled) → x ≡ Settled.Count count → TurnsTaken b v x c
-  unfolding settledMeaning afterTurn found plainSettle callsTaken counted
+  unfolding settledMeaning plainSettle callsTaken counted
   going-done f x e =
-      let whole = left-is ∙ ap (λ (u : Turn). before (go .taken) (afterTurn (found number u))) f ∙ before-settled (go .taken) in
+      let whole = whole-done f in
       record {
         answer = ap settledMeaning e ∙ ap counted (sym (go .many)) ∙ sym (ap plainSettle whole);
         bytes = λ z. go .bytes ∙ sym (ap (λ (s : Settling). runOn b (callsTaken s)) whole);
       }
 
 -- as many turns as there can be
+pub whole-out : (b : List ℕ) (v : View) (count : ℕ) (c : List ℕ) (go : Going b v count c) → maxTurns ≤ count
+    → settleFrom hl3 maxTurns (v .number) (hallOf b) ≡ settled (go .taken)
+unfolding settleFrom
+whole-out b v count c go out =
+    let z : maxTurns - count ≡ 0 = omega arith in
+    go .left ∙ ap (λ n. before (go .taken) (settleFrom hl3 n (v .number) (hallOf c))) z ∙ before-settled (go .taken)
+
 pub going-out : (b : List ℕ) (v : View) (count : ℕ) (c : List ℕ) → Going b v count c → maxTurns ≤ count → (x : Settled) → x ≡ Settled.Count count
     → TurnsTaken b v x c
-unfolding settleFrom settledMeaning plainSettle callsTaken counted
+unfolding settledMeaning plainSettle callsTaken counted
 going-out b v count c go out x e =
-    let z : maxTurns - count ≡ 0 = omega arith in
-    let whole = go .left ∙ ap (λ n. before (go .taken) (settleFrom hl3 n (v .number) (hallOf c))) z ∙ before-settled (go .taken) in
+    let whole = whole-out b v count c go out in
     record {
       answer = ap settledMeaning e ∙ ap counted (sym (go .many)) ∙ sym (ap plainSettle whole);
       bytes = λ y. go .bytes ∙ sym (ap (λ (s : Settling). runOn b (callsTaken s)) whole);

@@ -6,6 +6,7 @@ ghost use mathlib.Core.List.{map};
 ghost use Prim.Native.Nat.{_≤_};
 ghost use lib.Dec.{eqb};
 ghost use lib.ListN.{length};
+ghost use Rattle.base.specs.Chains.{refuse};
 ghost use Rattle.quorum.specs.Sets.{members};
 ghost use Rattle.model.specs.Hall.{maxRecorders};
 ghost use Rattle.model.specs.Call.{hl3};
@@ -49,7 +50,7 @@ pub enum Turn {
 }
 
 // The word A of a call: the view in kinds 6 and 7.
-fn view_word(g: u32, k: u32) -> u32
+pub fn view_word(g: u32, k: u32) -> u32
     ensures { λ a. ⌜ a ≡ settleCall g k 0 .a ⌝ }
 {
     if or(k == kinds::ENTER, k == kinds::PLACE) {
@@ -123,7 +124,7 @@ fn is_found(t: Turn) -> bool
 }
 
 // One turn in a view.
-fn find_turn(b: &[u8], v: View) -> Turn
+pub fn find_turn(b: &[u8], v: View) -> Turn
     requires { ⌜ isStored (now b) ≡ true ⌝ }
     ensures { λ t. ⌜ found (v .number) t
         ≡ anyTurn hl3 (hallOf (now (b .entry))) (settleCalls (v .number) (members (hallOf (now (b .entry)) .size) (v .set))) ⌝ }
@@ -187,8 +188,17 @@ fn is_barred(b: &[u8], count: usize) -> bool
     !in_primary(b, count - 1)
 }
 
+// 42: "a hall whose greatest view is missing or not primary".
+pub fn bar_refusal(b: &[u8]) -> u32
+    requires { ⌜ isStored (now b) ≡ true ⌝ }
+    ensures { λ n. ⌜ n ≡ refuse (cannotSettle (hallOf (now (b .entry)))) 42 ⌝ }
+{
+    let count = view_count(b);
+    words::refusal(is_barred(b, count), refusals::NOT_PRIMARY)
+}
+
 // The view with the greatest number: numbers rise, so it is the last formed one.
-fn greatest_view(b: &[u8], count: usize) -> View
+pub fn greatest_view(b: &[u8], count: usize) -> View
     requires { ⌜ (isStored (now b) ≡ true) × (1 ≤ count) × (count ≡ length (hallOf (now b) .service .created)) ⌝ }
     ensures { λ v. ⌜ ViewIs (hallOf (now (b .entry))) (greatestView (hallOf (now (b .entry)))) v ⌝ }
 {

@@ -102,7 +102,7 @@ pub fn bytes_refusal(bytes: &[u8]) -> u32
 }
 
 // 11 and 31.
-fn early_refusal(bytes: &[u8], k: u32) -> u32
+pub fn early_refusal(bytes: &[u8], k: u32) -> u32
     ensures { λ n. ⌜ n ≡ kindNumber k ⨾ bytesNumber (now (bytes .entry)) ⌝ }
 {
     let kind = kind_refusal(k);
