@@ -13,17 +13,23 @@
  *     K R A B    an action: kind, recorder, two arguments, 0 where unused
  *     settle     settle the hall: all steps that complete the log in the view
  *                with the greatest number; says how many they were
+ *     back       take back the last action that was accepted; says which one.
+ *                Up to 16 can be taken back, one line for each; of a settle each
+ *                step is an action
  *     page R     show the page of recorder R as it is now
  *     # ...      a remark; empty lines are passed over too
  *
- * A refused action or settle changes nothing; the refusal is explained in words.
- * A page shows the margin of the recorder's group: twice its votes less those of
- * the hall, above 0 if the group is primary.
+ * A refused action, settle or step back changes nothing; the refusal is explained
+ * in words. A page shows the margin of the recorder's group: twice its votes less
+ * those of the hall, above 0 if the group is primary.
  *
  * With --record, FILE becomes a run file of the opening and all actions given,
  * refused ones too; ./replay FILE lists it. A settle stands there as the actions
- * that it took, a refused one not at all. FILE has votes just if they are given
- * here.
+ * that it took, a refused one not at all. An action that was taken back does not
+ * stand there, nor do the refused ones that came after it: they were refused in a
+ * hall that is no more. So FILE ends in the hall shown here. It begins with the
+ * opening, and no step back goes behind that. FILE has votes just if they are
+ * given here.
  *
  * The exit status is 0, or 1 if a line is not understood, the opening or a page
  * is refused, the input cannot be read, or the output or FILE cannot be
@@ -42,16 +48,25 @@
 /* Longer lines are not understood, remarks apart. */
 #define LINE_LENGTH 200
 
+/* A formed view. */
+struct view {
+    uint32_t number, members;
+};
+
 /* A hall, and what was asked of it. */
 struct run {
     uint8_t hall[HALL_LENGTH];
+    uint8_t undo[HALL_UNDO_LENGTH]; /* lent beside the hall at every step and settle */
     uint32_t n, founders;
     int has_votes; /* whether votes were given; else the row is the built-in one */
     uint32_t votes[HALL_RECORDERS];
-    uint32_t view, members; /* the view with the greatest number: that number, and its set */
-    const char *record;     /* the file to write, NULL for none */
-    uint32_t actions[4 * HALL_MAX_ACTIONS]; /* the first of the actions given */
-    unsigned long given;                    /* how many were given */
+    struct view views[HALL_MAX_VIEWS]; /* those formed, the greatest number last */
+    size_t formed;                     /* how many there are */
+    const char *record;                /* the file to write, NULL for none and no actions kept */
+    uint32_t actions[4 * HALL_MAX_ACTIONS]; /* the first of the actions given, but for those taken back */
+    unsigned long given;                    /* how many these are */
+    unsigned long places[HALL_MAX_UNDO];    /* where those stand that can be taken back, oldest first */
+    size_t held;                            /* how many these are */
     uint8_t before[HALL_LENGTH];            /* the hall before a settle: its actions are found there */
     unsigned long unlike;                   /* line of a settle that counts other than these, or 0 */
     uint8_t file[HALL_MAX_FILE];            /* room for the run file */
@@ -123,8 +138,8 @@ static const char *reason_by_kind(uint32_t number, uint32_t kind)
     }
 }
 
-/* Why an opening, an action, a settle or a page was refused; kind is 0 but for
- * actions. */
+/* Why an opening, an action, a settle, a step back or a page was refused; kind is
+ * 0 but for actions. */
 static const char *reason(uint32_t number, uint32_t kind)
 {
     switch (number) {
@@ -154,6 +169,8 @@ static const char *reason(uint32_t number, uint32_t kind)
         return "the recorder is in this view already, or in a later one";
     case HALL_REFUSED_NOT_PRIMARY:
         return "no view is formed, or the one with the greatest number is not primary";
+    case HALL_REFUSED_UNDO:
+        return "no action is left to take back: of those accepted up to 16 are held";
     default:
         return reason_by_kind(number, kind);
     }
@@ -341,34 +358,58 @@ static int read_line(struct line *line)
 
 /* -- Actions ------------------------------------------------------------- */
 
-/* Performs an action on a hall. HALL_OK, or the number of a refusal. */
-static uint32_t step(uint8_t *hall, const uint32_t *words)
+/* Notes the next action of the record as one that can be taken back. */
+static void hold_place(struct run *run)
 {
-    uint8_t answer[HALL_ANSWER_LENGTH];
-    return hall_step(hall, HALL_LENGTH, words[0], words[1], words[2], words[3], answer, sizeof answer);
+    if (run->held == HALL_MAX_UNDO) {
+        run->held--;
+        memmove(run->places, run->places + 1, run->held * sizeof *run->places);
+    }
+    run->places[run->held++] = run->given;
 }
 
-/* Keeps an action for the record. */
-static void keep_action(struct run *run, const uint32_t *words)
+/* Keeps an action for the record, which was accepted or not. */
+static void keep_action(struct run *run, const uint32_t *words, int accepted)
 {
+    if (!run->record) {
+        return;
+    }
+    if (accepted) {
+        hold_place(run);
+    }
     if (run->given < HALL_MAX_ACTIONS) {
         memcpy(run->actions + 4 * run->given, words, 4 * sizeof *words);
     }
     run->given++;
 }
 
+/* Drops the last accepted action from the record, and what came after it. */
+static void drop_action(struct run *run)
+{
+    if (run->held != 0) {
+        run->given = run->places[--run->held];
+    }
+}
+
+static void print_action(const uint32_t *words)
+{
+    printf("%" PRIu32 " %" PRIu32 " %" PRIu32 " %" PRIu32, words[0], words[1], words[2], words[3]);
+}
+
 /* Takes one action; says why if it is refused. */
 static void take_action(struct run *run, const uint32_t *words, unsigned long at)
 {
-    uint32_t number = step(run->hall, words);
+    uint8_t answer[HALL_ANSWER_LENGTH];
+    uint32_t number = hall_step_held(run->hall, HALL_LENGTH, run->undo, HALL_UNDO_LENGTH, words[0], words[1],
+                                     words[2], words[3], answer, sizeof answer);
     if (number != HALL_OK) {
-        printf("line %lu: %" PRIu32 " %" PRIu32 " %" PRIu32 " %" PRIu32 " refused (%" PRIu32 "): %s\n", at,
-               words[0], words[1], words[2], words[3], number, reason(number, words[0]));
+        printf("line %lu: ", at);
+        print_action(words);
+        printf(" refused (%" PRIu32 "): %s\n", number, reason(number, words[0]));
     } else if (words[0] == HALL_FORM) {
-        run->view = words[2];
-        run->members = words[3];
+        run->views[run->formed++] = (struct view){words[2], words[3]};
     }
-    keep_action(run, words);
+    keep_action(run, words, number == HALL_OK);
 }
 
 /* The order in which a turn of a settle tries the kinds. */
@@ -383,20 +424,24 @@ enum { SETTLE_KINDS = sizeof settle_kinds / sizeof settle_kinds[0] };
  * Whether it does. */
 static int keep_step(struct run *run, uint32_t k, uint32_t r)
 {
-    const uint32_t words[4] = {k, r, k == HALL_ENTER || k == HALL_PLACE ? run->view : 0, 0};
-    if (step(run->before, words) != HALL_OK) {
+    const uint32_t view = run->views[run->formed - 1].number;
+    const uint32_t words[4] = {k, r, k == HALL_ENTER || k == HALL_PLACE ? view : 0, 0};
+    uint8_t answer[HALL_ANSWER_LENGTH];
+    if (hall_step(run->before, HALL_LENGTH, words[0], words[1], words[2], words[3], answer, sizeof answer) !=
+        HALL_OK) {
         return 0;
     }
-    keep_action(run, words);
+    keep_action(run, words, 1);
     return 1;
 }
 
 /* Keeps the first action that a turn of a settle finds. Whether there is one. */
 static int keep_turn(struct run *run)
 {
+    const uint32_t members = run->views[run->formed - 1].members;
     for (size_t i = 0; i < SETTLE_KINDS; i++) {
         for (uint32_t r = 1; r <= HALL_RECORDERS; r++) {
-            if (is_member(run->members, r) && keep_step(run, settle_kinds[i], r)) {
+            if (is_member(members, r) && keep_step(run, settle_kinds[i], r)) {
                 return 1;
             }
         }
@@ -419,7 +464,8 @@ static void take_settle(struct run *run, unsigned long at)
 {
     uint8_t answer[HALL_ANSWER_LENGTH];
     memcpy(run->before, run->hall, HALL_LENGTH);
-    uint32_t number = hall_settle(run->hall, HALL_LENGTH, answer, sizeof answer);
+    uint32_t number =
+        hall_settle_held(run->hall, HALL_LENGTH, run->undo, HALL_UNDO_LENGTH, answer, sizeof answer);
     if (number != HALL_OK) {
         printf("line %lu: settle refused (%" PRIu32 "): %s\n", at, number, reason(number, 0));
         return;
@@ -431,12 +477,43 @@ static void take_settle(struct run *run, unsigned long at)
     }
 }
 
+/* The words of the action that would be taken back, zeros if none is held: the
+ * newest slot of the undo buffer begins with them (docs/undo-buffer.md). */
+static void newest_held(const uint8_t *undo, uint32_t *words)
+{
+    const size_t slot_length = (HALL_UNDO_LENGTH - 1) / HALL_MAX_UNDO;
+    for (size_t i = 0; i < 4; i++) {
+        words[i] = undo[0] == 0 ? 0 : hall_word(undo + 1 + (undo[0] - 1u) * slot_length, i);
+    }
+}
+
+/* Takes the last accepted action back; says which one that was, or why it is
+ * refused. */
+static void take_back(struct run *run, unsigned long at)
+{
+    uint32_t words[4];
+    newest_held(run->undo, words);
+    uint32_t number = hall_step_back(run->hall, HALL_LENGTH, run->undo, HALL_UNDO_LENGTH);
+    if (number != HALL_OK) {
+        printf("line %lu: back refused (%" PRIu32 "): %s\n", at, number, reason(number, 0));
+        return;
+    }
+    printf("line %lu: taken back: ", at);
+    print_action(words);
+    putchar('\n');
+    if (words[0] == HALL_FORM) {
+        run->formed--;
+    }
+    drop_action(run);
+}
+
 /* -- Lines --------------------------------------------------------------- */
 
-/* Whether a text is just `settle`. */
-static int is_settle(const char *text)
+/* Whether a text is just this word. */
+static int is_word(const char *text, const char *word)
 {
-    return strncmp(text, "settle", 6) == 0 && take_numbers(text + 6, NULL, 0);
+    size_t length = strlen(word);
+    return strncmp(text, word, length) == 0 && take_numbers(text + length, NULL, 0);
 }
 
 /* Whether a text is `page` and a recorder. */
@@ -446,8 +523,8 @@ static int is_page(const char *text, uint32_t *recorder)
            take_numbers(text + 4, recorder, 1);
 }
 
-/* Does what a line asks for. Whether that went well; a refused action or settle
- * does. */
+/* Does what a line asks for. Whether that went well; a refused action, settle or
+ * step back does. */
 static int take_line(struct run *run, const struct line *line, unsigned long at)
 {
     uint32_t words[4];
@@ -466,8 +543,12 @@ static int take_line(struct run *run, const struct line *line, unsigned long at)
         if (is_page(text, words)) {
             return show_page(run->hall, words[0]);
         }
-        if (is_settle(text)) {
+        if (is_word(text, "settle")) {
             take_settle(run, at);
+            return 1;
+        }
+        if (is_word(text, "back")) {
+            take_back(run, at);
             return 1;
         }
         if (take_numbers(text, words, 4)) {
@@ -588,12 +669,14 @@ static uint32_t first_members(const struct run *run)
     return set;
 }
 
-/* What is known of a hall just opened. */
+/* What is known of a hall just opened: nothing can be taken back. */
 static void begin(struct run *run)
 {
-    run->view = 1;
-    run->members = first_members(run);
+    memset(run->undo, 0, sizeof run->undo);
+    run->views[0] = (struct view){1, first_members(run)};
+    run->formed = 1;
     run->given = 0;
+    run->held = 0;
     run->unlike = 0;
 }
 

@@ -1,6 +1,6 @@
 /*
- * HL3 hall log: open a hall, perform an action, settle the hall, read a
- * recorder's page; read and write run files.
+ * HL3 hall log: open a hall, perform an action, settle the hall, step back,
+ * read a recorder's page; read and write run files.
  *
  * A hall is HALL_LENGTH bytes that the caller owns and lends to each call;
  * docs/stored-form.md describes them. The library keeps nothing between calls
@@ -8,28 +8,29 @@
  *
  * All calls return HALL_OK, which is 0, or the number of a refusal (enum
  * hall_refusal). A refused call leaves every lent byte as it was. Where several
- * refusals fit, the first in the order 11, 31, 12 to 16, 41, 42, 32 to 40, 18 is
- * given; 19, of run files alone, comes before 16 in reading and after 41 in
+ * refusals fit, the first in the order 11, 31, 42, 43, 12 to 16, 41, 32 to 40, 18
+ * is given; 19, of run files alone, comes before 16 in reading and after 41 in
  * writing.
  *
  * A lent slice is a pointer and the number of bytes from there on.
  *  - It may be longer than needed: what lies past the first HALL_LENGTH bytes
- *    of a hall, or past the first HALL_ANSWER_LENGTH bytes of an answer or a
- *    page, is neither read nor written.
+ *    of a hall, the first HALL_UNDO_LENGTH bytes of an undo buffer, or the first
+ *    HALL_ANSWER_LENGTH bytes of an answer or a page, is neither read nor
+ *    written.
  *  - It needs no alignment, but for the words of hall_run_write.
  *  - Its pointer is not null, also where the length is 0.
  *  - The slices lent to one call do not overlap.
  *
  * Threads. Different halls are independent: different threads may use them at
  * the same time. Of one hall, pages may be read by several threads at once, each
- * into a slice of its own; while a thread opens, steps or settles it no other
- * thread uses it, so a caller that shares a hall locks it. The library itself
- * never waits.
+ * into a slice of its own; while a thread opens, steps, settles or steps back no
+ * other thread uses it, so a caller that shares a hall locks it, and an undo
+ * buffer with its hall. The library itself never waits.
  *
  * Platform. The library is built for Linux on x86-64, with the System V calling
- * convention. From outside it needs memcpy and memset alone. A settle takes at
- * most HALL_SETTLE_STACK bytes of stack and any other call at most HALL_STACK,
- * beside what the thread itself needs.
+ * convention. From outside it needs memcpy and memset alone. A settle, held or
+ * not, and a step back take at most HALL_SETTLE_STACK bytes of stack, any other
+ * call at most HALL_STACK, beside what the thread itself needs.
  */
 #ifndef HL3_HALL_LOG_HALL_H
 #define HL3_HALL_LOG_HALL_H
@@ -44,12 +45,17 @@ extern "C" {
 /* Bytes of a hall. */
 #define HALL_LENGTH 59731
 
-/* Bytes of stack that suffice for any call but a settle: none but a step that
- * receives the last summary of an exchange takes 4,096, and that one takes more
- * for each entry still to be ordered. */
+/* Bytes of an undo buffer, and how many accepted actions it holds at most. */
+#define HALL_UNDO_LENGTH 8337
+#define HALL_MAX_UNDO 16
+
+/* Bytes of stack that suffice for any call but a settle and a step back: none but
+ * a step that receives the last summary of an exchange takes 4,096, and that one
+ * takes more for each entry still to be ordered. */
 #define HALL_STACK 8192
 
-/* Bytes of stack that suffice for a settle: it works on a copy of the hall. */
+/* Bytes of stack that suffice for a settle, a held settle and a step back: each
+ * works on a copy of the hall. */
 #define HALL_SETTLE_STACK 69632
 
 /* Bytes of an answer or a page: HALL_WORDS words of 32 bits, little-endian,
@@ -131,7 +137,7 @@ enum hall_answer_word {
     HALL_FROM_VALUE = 2
 };
 
-/* Words of a settle's answer. */
+/* Words of a settle's answer, held or not. */
 enum hall_settle_word {
     HALL_SETTLE_COUNT = 0 /* how many steps it took */
 };
@@ -191,8 +197,12 @@ enum hall_refusal {
                                      entry is not known */
     HALL_REFUSED_FULL = 40,       /* a list, the sequence number or the summary's place is full,
                                      or the new label exists already */
-    HALL_REFUSED_NOT_PRIMARY = 42 /* settling: no view is formed, or the one with the greatest
-                                     number is not primary; given directly after 31 */
+    HALL_REFUSED_NOT_PRIMARY = 42, /* settling: no view is formed, or the one with the greatest
+                                      number is not primary; given directly after 31 */
+    HALL_REFUSED_UNDO = 43         /* the undo buffer is too short or not in its form; stepping
+                                      back: none is held, or the newest action held does not lead
+                                      from the hall it would restore to the present one; given
+                                      directly after 31 and 42 */
 };
 
 /*
@@ -251,6 +261,62 @@ uint32_t hall_step(uint8_t *hall, size_t hall_len, uint32_t k, uint32_t r, uint3
  * the hall can be settled and answer_len is below HALL_ANSWER_LENGTH.
  */
 uint32_t hall_settle(uint8_t *hall, size_t hall_len, uint8_t *answer, size_t answer_len);
+
+/*
+ * Steps back. An undo buffer is HALL_UNDO_LENGTH bytes that the caller owns and
+ * lends beside the hall; docs/undo-buffer.md describes them. Empty it is all
+ * zeros, and its first byte is the number of actions held. Lent at every step
+ * and settle it holds the newest HALL_MAX_UNDO accepted actions: one more pushes
+ * out the oldest, a refused one leaves no trace, and a settle is held as the
+ * actions of its run. hall_step_back takes the newest one back; it goes into the
+ * middle of a settle, one action at a time.
+ *
+ *  - Opening holds nothing and knows no buffer. Who opens a hall anew clears the
+ *    buffer with zeros.
+ *  - A run that begins with an empty buffer and lends it at every step and settle
+ *    counts, after steps back, as the run of the accepted actions that remain. A
+ *    step back is then refused only where none is held.
+ *  - What else writes the hall, a hall_step as well, is a foreign write. The hall
+ *    that a step back would restore is always the present one with two parts of
+ *    it put back, those that the newest action held has written. If that action
+ *    does not lead from there to the present hall, 43 says so, and it stays held.
+ *    If it does, the step back is taken; but the hall no longer counts as reached
+ *    from opening.
+ */
+
+/*
+ * Performs the action k, r, a, b as hall_step does, and holds it in `undo`. It
+ * makes no copy of the hall.
+ *
+ * Returns HALL_OK; 11; 31, also if hall_len is below HALL_LENGTH; 43 if undo_len
+ * is below HALL_UNDO_LENGTH or the buffer is not in its form; 12 to 15; 32 to 40;
+ * or 18 if the action is allowed and answer_len is below HALL_ANSWER_LENGTH.
+ */
+uint32_t hall_step_held(uint8_t *hall, size_t hall_len, uint8_t *undo, size_t undo_len, uint32_t k,
+                        uint32_t r, uint32_t a, uint32_t b, uint8_t *answer, size_t answer_len);
+
+/*
+ * Settles the hall as hall_settle does, and holds each action of its run in
+ * `undo`, so that of a longer run the newest HALL_MAX_UNDO stay. A settle of no
+ * steps leaves no trace there.
+ *
+ * Returns HALL_OK; 31, also if hall_len is below HALL_LENGTH; 42; 43 if undo_len
+ * is below HALL_UNDO_LENGTH or the buffer is not in its form; 40; or 18 if the
+ * hall can be settled and answer_len is below HALL_ANSWER_LENGTH.
+ */
+uint32_t hall_settle_held(uint8_t *hall, size_t hall_len, uint8_t *undo, size_t undo_len,
+                          uint8_t *answer, size_t answer_len);
+
+/*
+ * Takes the newest action held in `undo` back: the hall is the one before it, and
+ * the action is no longer held. An action that was pushed out is gone.
+ *
+ * Returns HALL_OK; 31, also if hall_len is below HALL_LENGTH; or 43 if undo_len
+ * is below HALL_UNDO_LENGTH, if the buffer is not in its form, if none is held,
+ * or if the present hall with the action's two parts put back is no hall, refuses
+ * the action, or is led by it to other bytes than the present ones.
+ */
+uint32_t hall_step_back(uint8_t *hall, size_t hall_len, uint8_t *undo, size_t undo_len);
 
 /*
  * Writes the page of recorder r into the first HALL_ANSWER_LENGTH bytes of

@@ -9,6 +9,7 @@
 
 mod count;
 mod earlier;
+mod held;
 mod inner;
 mod inputs;
 mod plain;
@@ -97,6 +98,8 @@ fn main() {
     eprintln!("times are the least of {passes} passes");
     let [three, eight, _] = &runs;
     output.print(&times::steps(passes, &[three, eight]));
+    output.print(&held::steps(passes, &runs));
+    output.print(&held::steps_back(passes, &runs));
     if inner::LINKED {
         output.print(&times::inner_steps(passes, &runs));
     }

@@ -1,5 +1,6 @@
 //! The tables of times.
 
+use crate::held;
 use crate::inner;
 use crate::inputs::{self, Run, Snapshot, HALLS};
 use crate::plain;
@@ -14,7 +15,7 @@ use std::hint::black_box;
 use std::path::Path;
 
 /// A slice for the library, with a hall opened in it.
-fn opened(run: &Run) -> Lent {
+pub fn opened(run: &Run) -> Lent {
     let mut lent = Lent::new(&[0; LENGTH], LENGTH);
     let votes = built_in_votes(run.n);
     assert_eq!(library::open(&mut lent, run.n, run.founders, votes), 0);
@@ -22,7 +23,7 @@ fn opened(run: &Run) -> Lent {
 }
 
 /// The library's public step, over a whole run.
-fn library_steps(run: &Run) -> Vec<u8> {
+pub fn library_steps(run: &Run) -> Vec<u8> {
     let mut hall = opened(run);
     let mut answer = Lent::new(&[0; ANSWER_LENGTH], ANSWER_LENGTH);
     for &action in &run.actions {
@@ -148,7 +149,8 @@ fn compare_settle(table: &mut Table, name: String, start: &Hall) {
     table.compare(name, 1, settle, rust);
 }
 
-/// All tries of the longest settle: as steps without a check, and in its call.
+/// All tries of the longest settle: as steps without a check, and in its call,
+/// held and not.
 pub fn longest_settle(passes: u32) -> Table {
     let heading = "Longest settle: milliseconds for all tries";
     let mut table = Table::new(heading, Unit::Milliseconds, passes);
@@ -160,6 +162,8 @@ pub fn longest_settle(passes: u32) -> Table {
     }
     let name = format!("settle call, {taken} steps: settle in memory");
     compare_settle(&mut table, name, &settle.hall);
+    let name = format!("held settle call beside settle call, {taken} steps");
+    held::settle_row(&mut table, name, 1, &settle.hall);
     table
 }
 
@@ -180,6 +184,8 @@ pub fn settled_hall(passes: u32) -> Table {
         || (0..HALLS).map(|_| settle()).sum::<u32>(),
         || (0..HALLS).map(|_| rust()).sum::<u32>(),
     );
+    let name = "held settle beside settle, a settled hall";
+    held::settle_row(&mut table, name.to_string(), HALLS, &hall);
     table
 }
 

@@ -10,62 +10,7 @@
  *
  * The last line is 'N passed, M failed'.
  */
-#include "hall.h"
-
-#include <stdio.h>
-#include <stdlib.h>
-#include <string.h>
-
-static unsigned passed;
-static unsigned failed;
-
-static void check(int holds, const char *what, unsigned line)
-{
-    if (holds) {
-        passed++;
-    } else {
-        failed++;
-        printf("smoke.c:%u: %s\n", line, what);
-    }
-}
-
-#define CHECK(holds) check((holds), #holds, __LINE__)
-
-/* A slice that holds one byte everywhere. */
-static uint8_t *filled(size_t length, uint8_t byte)
-{
-    /* malloc(0) may give a null pointer. */
-    uint8_t *bytes = malloc(length ? length : 1);
-    if (!bytes) {
-        puts("no memory");
-        exit(2);
-    }
-    memset(bytes, byte, length);
-    return bytes;
-}
-
-static int holds_only(const uint8_t *bytes, size_t from, size_t to, uint8_t byte)
-{
-    for (size_t i = from; i < to; i++) {
-        if (bytes[i] != byte) {
-            return 0;
-        }
-    }
-    return 1;
-}
-
-/* Whether a slice has the given first words, then zero words, and after them
- * `rest` bytes 0xa5. */
-static int words_are(const uint8_t *bytes, size_t rest, const uint32_t *words, size_t count)
-{
-    for (size_t i = 0; i < HALL_WORDS; i++) {
-        if (hall_word(bytes, i) != (i < count ? words[i] : 0)) {
-            printf("word %u is %u\n", (unsigned)i, (unsigned)hall_word(bytes, i));
-            return 0;
-        }
-    }
-    return holds_only(bytes, HALL_ANSWER_LENGTH, HALL_ANSWER_LENGTH + rest, 0xa5);
-}
+#include "check.h"
 
 /* Takes a step with a fresh slice for the answer. */
 static uint8_t *answer_of(uint8_t *hall, uint32_t k, uint32_t r, uint32_t a, uint32_t b, uint32_t *number)
@@ -979,6 +924,5 @@ int main(void)
     refused_votes_to_write();
     refused_votes_to_read();
     longest_run_with_votes();
-    printf("%u passed, %u failed\n", passed, failed);
-    return failed != 0;
+    return end_checks();
 }

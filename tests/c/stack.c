@@ -1,10 +1,10 @@
 /*
  * Measures how many bytes of stack each call takes: it runs in a thread whose
- * stack is painted before the call and looked at afterwards. A settle takes at
- * most HALL_SETTLE_STACK. No other call takes more than HALL_STACK, and only one
- * 4,096 or more: the last summary of an exchange that leaves all entries to be
- * put into order, one level of recursion for each. Prints the most that each kind
- * of call took.
+ * stack is painted before the call and looked at afterwards. A settle, held or
+ * not, and a step back take at most HALL_SETTLE_STACK. No other call takes more
+ * than HALL_STACK, and only one 4,096 or more: the last summary of an exchange
+ * that leaves all entries to be put into order, one level of recursion for each.
+ * Prints the most that each kind of call took.
  *
  * The last line is 'N passed, M failed'.
  */
@@ -18,11 +18,13 @@
 
 enum { AREA = 1 << 20, PAINT = 0xa5, MARGIN = 256 };
 
-/* What a call may take: a settle, the step that puts entries into order, and any
- * other. */
+/* What a call may take: a settle or a step back, the step that puts entries into
+ * order, and any other. */
 enum { SETTLING = HALL_SETTLE_STACK, ORDERING = HALL_STACK, SMALL = 4095 };
 
 static uint8_t hall[HALL_LENGTH];
+static uint8_t before[HALL_LENGTH];
+static uint8_t undo[HALL_UNDO_LENGTH];
 static uint8_t answer[HALL_ANSWER_LENGTH];
 static uint8_t file[HALL_MAX_FILE];
 static uint32_t actions[4 * HALL_MAX_ACTIONS];
@@ -43,9 +45,24 @@ static void take_step(void)
     number = hall_step(hall, sizeof hall, words[0], words[1], words[2], words[3], answer, room);
 }
 
+static void take_held_step(void)
+{
+    number = hall_step_held(hall, sizeof hall, undo, sizeof undo, words[0], words[1], words[2], words[3], answer, room);
+}
+
+static void step_back(void)
+{
+    number = hall_step_back(hall, sizeof hall, undo, sizeof undo);
+}
+
 static void settle_hall(void)
 {
     number = hall_settle(hall, sizeof hall, answer, room);
+}
+
+static void settle_held(void)
+{
+    number = hall_settle_held(hall, sizeof hall, undo, sizeof undo, answer, room);
 }
 
 static void read_page(void)
@@ -159,6 +176,12 @@ static struct peak peaks[] = {
     {"11 deliver", 0},
     {"settle, the longest", 0},
     {"settle, with all entries to be ordered", 0},
+    {"held step, the last summary", 0},
+    {"held step, any other", 0},
+    {"held settle, the longest", 0},
+    {"held settle, with all entries to be ordered", 0},
+    {"step back, the last summary", 0},
+    {"step back, any other", 0},
     {"page of a full order", 0},
     {"write a run", 0},
     {"read a run", 0},
@@ -215,11 +238,34 @@ static void answered_within(size_t limit, const char *name, void (*function)(voi
     measure(name, function, HALL_OK, limit);
 }
 
+/* A step, and from the same hall a held one, which is taken back and then taken
+ * again. The undo buffer is soon full, so that slots move. */
 static void step_within(size_t limit, const char *name, uint32_t k, uint32_t r, uint32_t a, uint32_t b)
 {
     const uint32_t given[4] = {k, r, a, b};
+    const char *held = limit == ORDERING ? "held step, the last summary" : "held step, any other";
+    const char *back = limit == ORDERING ? "step back, the last summary" : "step back, any other";
     memcpy(words, given, sizeof words);
+    memcpy(before, hall, sizeof hall);
     answered_within(limit, name, take_step);
+    memcpy(hall, before, sizeof hall);
+    answered_within(limit, held, take_held_step);
+    measure(back, step_back, HALL_OK, SETTLING);
+    measure(held, take_held_step, HALL_OK, limit);
+}
+
+/* A settle, and from the same hall a held one, of which the newest actions are
+ * taken back. */
+static void settle_within(const char *name, const char *held)
+{
+    memcpy(before, hall, sizeof hall);
+    answered_within(SETTLING, name, settle_hall);
+    memcpy(hall, before, sizeof hall);
+    answered_within(SETTLING, held, settle_held);
+    for (int i = 0; i < HALL_MAX_UNDO; i++) {
+        measure("step back, any other", step_back, HALL_OK, SETTLING);
+    }
+    measure("step back, any other", step_back, HALL_REFUSED_UNDO, SETTLING);
 }
 
 static void step(const char *name, uint32_t k, uint32_t r, uint32_t a, uint32_t b)
@@ -244,6 +290,7 @@ static void one_entry(void)
 static void all_labelled(void)
 {
     measure("open", open_hall, HALL_OK, SMALL);
+    memset(undo, 0, sizeof undo);
     for (uint32_t i = 1; i <= HALL_MAX_ENTRIES; i++) {
         step("1 submit", HALL_SUBMIT, 1, i, 0);
         step("2 label", HALL_LABEL, 1, 0, 0);
@@ -270,18 +317,19 @@ static void settled_order(void)
 {
     all_labelled();
     step("5 form", HALL_FORM, 0, 2, 1);
-    answered_within(SETTLING, "settle, with all entries to be ordered", settle_hall);
+    settle_within("settle, with all entries to be ordered", "held settle, with all entries to be ordered");
 }
 
 /* The most steps: all entries wait, and nobody has entered the new view. */
 static void longest_settle(void)
 {
     measure("open with votes", open_row, HALL_OK, SMALL);
+    memset(undo, 0, sizeof undo);
     for (uint32_t i = 0; i < HALL_MAX_ENTRIES; i++) {
         step("1 submit", HALL_SUBMIT, i % 8 + 1, i, 0);
     }
     step("5 form", HALL_FORM, 0, 2, 255);
-    answered_within(SETTLING, "settle, the longest", settle_hall);
+    settle_within("settle, the longest", "held settle, the longest");
 }
 
 int main(void)

@@ -1,8 +1,9 @@
 /*
- * Makes calls in threads with small stacks: steps of all kinds in 20,480 bytes;
- * in 65,536 the deepest step, the last summary of an exchange that leaves all
- * entries to be put into order; and in HALL_SETTLE_STACK and what a thread needs
- * the longest settle, and one with that deepest step in it.
+ * Makes calls in threads with small stacks: steps of all kinds, held ones too, in
+ * 20,480 bytes; in 65,536 the deepest step, the last summary of an exchange that
+ * leaves all entries to be put into order; in HALL_SETTLE_STACK and what a thread
+ * needs the longest settle, and one with that deepest step in it; the same held;
+ * and steps back.
  *
  * Each thread runs in a process of its own, and below its stack lies memory
  * that cannot be touched: a stack that is too small ends that process by a
@@ -12,6 +13,7 @@
  */
 #define _DEFAULT_SOURCE
 #include "hall.h"
+#include "kinds.h"
 
 #include <pthread.h>
 #include <stdio.h>
@@ -23,10 +25,11 @@
 
 enum { GUARD = 1 << 20, PAINT = 0xa5 };
 
-/* A stack for a settle, with 12,288 bytes for the thread itself. */
+/* The stack for a settle or a step back, with 12,288 bytes for the thread itself. */
 enum { SETTLING = HALL_SETTLE_STACK + 12288 };
 
 static uint8_t hall[HALL_LENGTH];
+static uint8_t undo[HALL_UNDO_LENGTH];
 static uint8_t answer[HALL_ANSWER_LENGTH];
 
 static unsigned passed;
@@ -43,29 +46,47 @@ static uint32_t step(uint32_t k, uint32_t r, uint32_t a, uint32_t b)
     return hall_step(hall, sizeof hall, k, r, a, b, answer, sizeof answer);
 }
 
-/* A run of two recorders with steps of all kinds; in its second view an entry
- * is left to be put into order. */
-static const uint32_t all_kinds[][4] = {
-    {HALL_SUBMIT, 1, 7, 0}, {HALL_LABEL, 1, 0, 0}, {HALL_SEND_ENTRY, 1, 0, 0}, {HALL_PLACE, 1, 1, 0},
-    {HALL_RECEIVE, 1, 0, 0}, {HALL_RECEIVE, 2, 0, 0}, {HALL_SAFE, 1, 0, 0}, {HALL_SAFE, 2, 0, 0},
-    {HALL_CONFIRM, 1, 0, 0}, {HALL_DELIVER, 1, 0, 0},
-    {HALL_SUBMIT, 2, 8, 0}, {HALL_LABEL, 2, 0, 0},
-    {HALL_FORM, 0, 2, 3}, {HALL_ENTER, 1, 2, 0}, {HALL_ENTER, 2, 2, 0},
-    {HALL_SEND_SUMMARY, 1, 0, 0}, {HALL_SEND_SUMMARY, 2, 0, 0}, {HALL_PLACE, 1, 2, 0}, {HALL_PLACE, 2, 2, 0},
-    {HALL_RECEIVE, 1, 0, 0}, {HALL_RECEIVE, 1, 0, 0}, {HALL_RECEIVE, 2, 0, 0}, {HALL_RECEIVE, 2, 0, 0},
-    {HALL_SAFE, 1, 0, 0}, {HALL_SAFE, 1, 0, 0}, {HALL_CONFIRM, 1, 0, 0}, {HALL_DELIVER, 1, 0, 0},
-};
+static uint32_t step_held(uint32_t k, uint32_t r, uint32_t a, uint32_t b)
+{
+    return hall_step_held(hall, sizeof hall, undo, sizeof undo, k, r, a, b, answer, sizeof answer);
+}
 
 /* Nothing is printed in a small thread, so that its stack is that of the
  * calls. Each function below returns 0 if all calls were taken. */
 static uint32_t take_all_kinds(void)
 {
     uint32_t refused = hall_open_built_in(hall, sizeof hall, 2, 3);
-    for (size_t i = 0; i < sizeof all_kinds / sizeof all_kinds[0]; i++) {
+    for (size_t i = 0; i < ALL_KINDS; i++) {
         const uint32_t *words = all_kinds[i];
         refused |= step(words[0], words[1], words[2], words[3]);
     }
     return refused;
+}
+
+static uint32_t take_all_kinds_held(void)
+{
+    uint32_t refused = hall_open_built_in(hall, sizeof hall, 2, 3);
+    memset(undo, 0, sizeof undo);
+    for (size_t i = 0; i < ALL_KINDS; i++) {
+        const uint32_t *words = all_kinds[i];
+        refused |= step_held(words[0], words[1], words[2], words[3]);
+    }
+    return refused;
+}
+
+/* All that is held is taken back. */
+static uint32_t take_all_back(void)
+{
+    uint32_t refused = HALL_OK;
+    while (undo[0] != 0 && refused == HALL_OK) {
+        refused = hall_step_back(hall, sizeof hall, undo, sizeof undo);
+    }
+    return refused;
+}
+
+static int is_all_back(void)
+{
+    return undo[0] == 0;
 }
 
 /* All entries are known and none is in the order, and a new view is formed. */
@@ -93,6 +114,19 @@ static uint32_t take_longest_order(void)
     return step(HALL_RECEIVE, 1, 0, 0);
 }
 
+static uint32_t take_longest_order_held(void)
+{
+    memset(undo, 0, sizeof undo);
+    return step_held(HALL_RECEIVE, 1, 0, 0);
+}
+
+/* The longest order, held. */
+static uint32_t prepare_order_held(void)
+{
+    uint32_t refused = prepare_longest_order();
+    return refused | take_longest_order_held();
+}
+
 static int is_longest_order(void)
 {
     return hall_page(hall, sizeof hall, 1, HALL_MAX_ORDER, answer, sizeof answer) == HALL_OK;
@@ -111,6 +145,18 @@ static uint32_t prepare_longest_settle(void)
 static uint32_t take_settle(void)
 {
     return hall_settle(hall, sizeof hall, answer, sizeof answer);
+}
+
+static uint32_t take_settle_held(void)
+{
+    memset(undo, 0, sizeof undo);
+    return hall_settle_held(hall, sizeof hall, undo, sizeof undo, answer, sizeof answer);
+}
+
+static uint32_t prepare_settle_held(void)
+{
+    uint32_t refused = prepare_longest_settle();
+    return refused | take_settle_held();
 }
 
 static int is_longest_settle(void)
@@ -213,12 +259,22 @@ int main(void)
 {
     test("no call", 20480, take_nothing, NULL);
     test("kinds 1 to 11", 20480, take_all_kinds, NULL);
+    test("kinds 1 to 11, held", 20480, take_all_kinds_held, NULL);
     prepare(prepare_longest_order);
     test("the longest order", 65536, take_longest_order, is_longest_order);
+    test("the longest order, held", 65536, take_longest_order_held, is_longest_order);
     prepare(prepare_new_view);
     test("the longest order in a settle", SETTLING, take_settle, is_longest_order);
+    test("the longest order in a held settle", SETTLING, take_settle_held, is_longest_order);
     prepare(prepare_longest_settle);
     test("the longest settle", SETTLING, take_settle, is_longest_settle);
+    test("the longest settle, held", SETTLING, take_settle_held, is_longest_settle);
+    prepare(take_all_kinds_held);
+    test("steps back", SETTLING, take_all_back, is_all_back);
+    prepare(prepare_order_held);
+    test("the longest order taken back", SETTLING, take_all_back, is_all_back);
+    prepare(prepare_settle_held);
+    test("the longest settle taken back, its last steps", SETTLING, take_all_back, is_all_back);
     printf("%u passed, %u failed\n", passed, failed);
     return failed != 0;
 }

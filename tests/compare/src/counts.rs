@@ -9,6 +9,10 @@ pub enum Call {
     /// A step of a kind; 0 stands for every kind that is none.
     Step(u32),
     Settle,
+    /// A held step of a kind, as above.
+    HeldStep(u32),
+    HeldSettle,
+    StepBack,
     Page,
     RunRead,
     RunAction,
@@ -22,6 +26,10 @@ impl fmt::Display for Call {
             Call::Step(0) => write!(f, "no kind"),
             Call::Step(kind) => write!(f, "kind {kind}"),
             Call::Settle => write!(f, "settle"),
+            Call::HeldStep(0) => write!(f, "no kind, held"),
+            Call::HeldStep(kind) => write!(f, "kind {kind}, held"),
+            Call::HeldSettle => write!(f, "settle, held"),
+            Call::StepBack => write!(f, "step back"),
             Call::Page => write!(f, "page"),
             Call::RunRead => write!(f, "run read"),
             Call::RunAction => write!(f, "run action"),
@@ -33,7 +41,8 @@ impl fmt::Display for Call {
 #[derive(Default)]
 pub struct Counts {
     pub calls: u64,
-    /// By call and number; number 0 and the case for answers.
+    /// By call and number; number 0 and the case for answers, of a step back the
+    /// kind.
     answers: BTreeMap<(Call, u32, u32), u64>,
     /// Halls and steps of special interest.
     events: BTreeMap<&'static str, u64>,
@@ -80,6 +89,12 @@ fn wanted_answers() -> Vec<(Call, u32, u32)> {
     for number in [0, 31, 42, 40, 18] {
         wanted.push((Call::Settle, number, 0));
     }
+    for number in [0, 31, 42, 43, 40, 18] {
+        wanted.push((Call::HeldSettle, number, 0));
+    }
+    for number in [31, 43] {
+        wanted.push((Call::StepBack, number, 0));
+    }
     for number in [0, 31, 12, 38, 18] {
         wanted.push((Call::Page, number, 0));
     }
@@ -91,11 +106,17 @@ fn wanted_answers() -> Vec<(Call, u32, u32)> {
         wanted.push((Call::RunAction, number, case));
     }
     for (kind, refusals) in REFUSALS.iter().enumerate() {
-        let call = Call::Step(kind as u32);
-        wanted.extend(refusals.iter().map(|&number| (call, number, 0)));
-        wanted.extend(cases_of(kind).iter().map(|&case| (call, 0, case)));
+        let number = kind as u32;
+        for call in [Call::Step(number), Call::HeldStep(number)] {
+            wanted.extend(refusals.iter().map(|&number| (call, number, 0)));
+            wanted.extend(cases_of(kind).iter().map(|&case| (call, 0, case)));
+            if kind != 0 {
+                wanted.push((call, 18, 0));
+            }
+        }
         if kind != 0 {
-            wanted.push((call, 18, 0));
+            wanted.push((Call::HeldStep(number), 43, 0));
+            wanted.push((Call::StepBack, 0, number));
         }
     }
     wanted
@@ -142,7 +163,8 @@ impl Counts {
 
 fn name((call, number, case): (Call, u32, u32)) -> String {
     match (call, number) {
-        (Call::Step(_), 0) => format!("{call}: {}", CASES[case as usize]),
+        (Call::Step(_) | Call::HeldStep(_), 0) => format!("{call}: {}", CASES[case as usize]),
+        (Call::StepBack, 0) => format!("{call}: kind {case}"),
         (Call::RunAction, 0) => format!("{call}: {}", RUN_CASES[case as usize]),
         (_, 0) => format!("{call}: taken"),
         _ => format!("{call}: {number}"),
@@ -160,7 +182,7 @@ impl fmt::Display for Counts {
             line.push_str(&format!("  {what} x {count}"));
         }
         for (call, line) in lines {
-            writeln!(f, "  {call:<10}{line}", call = call.to_string())?;
+            writeln!(f, "  {call:<13}{line}", call = call.to_string())?;
         }
         for (event, count) in &self.events {
             writeln!(f, "  {event}: {count}")?;

@@ -2,12 +2,14 @@
 //! comparison with the second implementation. `main.rs` runs the tests.
 
 pub mod actions;
+pub mod bench;
 pub mod counts;
 pub mod courses;
 pub mod damage;
 pub mod decisions;
 pub mod events;
 pub mod files;
+pub mod flaws;
 pub mod halls;
 pub mod library;
 pub mod margins;
@@ -18,4 +20,5 @@ pub mod random;
 pub mod rows;
 pub mod runs;
 pub mod settles;
+pub mod stepbacks;
 pub mod vectors;

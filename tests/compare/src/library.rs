@@ -31,6 +31,30 @@ extern "C" {
 
     fn hall_settle(hall: *mut u8, hall_len: usize, answer: *mut u8, answer_len: usize) -> u32;
 
+    fn hall_step_held(
+        hall: *mut u8,
+        hall_len: usize,
+        undo: *mut u8,
+        undo_len: usize,
+        k: u32,
+        r: u32,
+        a: u32,
+        b: u32,
+        answer: *mut u8,
+        answer_len: usize,
+    ) -> u32;
+
+    fn hall_settle_held(
+        hall: *mut u8,
+        hall_len: usize,
+        undo: *mut u8,
+        undo_len: usize,
+        answer: *mut u8,
+        answer_len: usize,
+    ) -> u32;
+
+    fn hall_step_back(hall: *mut u8, hall_len: usize, undo: *mut u8, undo_len: usize) -> u32;
+
     fn hall_page(
         hall: *const u8,
         hall_len: usize,
@@ -158,6 +182,48 @@ pub fn step(hall: &mut Lent, [k, r, a, b]: [u32; 4], answer: &mut Lent) -> u32 {
 pub fn settle(hall: &mut Lent, answer: &mut Lent) -> u32 {
     // Safety: as for a step.
     unsafe { hall_settle(hall.pointer(), hall.length, answer.pointer(), answer.length) }
+}
+
+pub fn step_held(
+    hall: &mut Lent,
+    undo: &mut Lent,
+    [k, r, a, b]: [u32; 4],
+    answer: &mut Lent,
+) -> u32 {
+    // Safety: as for a step, for three areas that do not overlap.
+    unsafe {
+        hall_step_held(
+            hall.pointer(),
+            hall.length,
+            undo.pointer(),
+            undo.length,
+            k,
+            r,
+            a,
+            b,
+            answer.pointer(),
+            answer.length,
+        )
+    }
+}
+
+pub fn settle_held(hall: &mut Lent, undo: &mut Lent, answer: &mut Lent) -> u32 {
+    // Safety: as for a held step.
+    unsafe {
+        hall_settle_held(
+            hall.pointer(),
+            hall.length,
+            undo.pointer(),
+            undo.length,
+            answer.pointer(),
+            answer.length,
+        )
+    }
+}
+
+pub fn step_back(hall: &mut Lent, undo: &mut Lent) -> u32 {
+    // Safety: as for a held step.
+    unsafe { hall_step_back(hall.pointer(), hall.length, undo.pointer(), undo.length) }
 }
 
 pub fn page(hall: &mut Lent, r: u32, place: u32, page: &mut Lent) -> u32 {

@@ -1,17 +1,20 @@
 //! The library's C interface beside the second implementation: the same calls
 //! on the same bytes give the same numbers, answers and bytes.
 //!
-//!     compare [--times K] [--part K] [--seed S] [--every-value] [--threads T] [--stop]
+//!     compare [--times K] [--part K] [--seed S] [--every-value] [--threads T] [--from NAME]
+//!             [--stop]
 //!
 //! `--times K` takes K times as many seeds, `--part K` one in K, `--seed S`
 //! starts them at S instead of 1, `--every-value` sets each byte of a hall to
-//! all other values, and `--stop` ends after the first test that failed. A
-//! failure names its test and seed. The last line is 'N passed, M failed'.
+//! all other values, `--from NAME` leaves out the tests before the one with that
+//! name and does not ask what came, and `--stop` ends after the first test that failed. A failure names its
+//! test and seed. The last line is 'N passed, M failed'.
 
 use compare::counts::Counts;
 use compare::pair::Difference;
 use compare::{
-    courses, damage, decisions, events, files, margins, offsets, openings, runs, settles, vectors,
+    bench, courses, damage, decisions, events, files, flaws, margins, offsets, openings, runs,
+    settles, stepbacks, vectors,
 };
 use std::env;
 use std::process::ExitCode;
@@ -33,7 +36,7 @@ const RANDOM: [&[&str]; 2] = [&decisions::RANDOM, &events::BY_ROW];
 const SETTLES: [&[&str]; 1] = [&courses::ANY];
 const ODD_SETTLES: [&[&str]; 2] = [&courses::ANY, &courses::RANDOM];
 
-const TESTS: [Row; 24] = [
+const TESTS: [Row; 33] = [
     ("offsets by hand", offsets::by_hand, 1, &[]),
     ("vectors", vectors::all, 1, &[]),
     ("recorded settles", vectors::settles, 1, &[]),
@@ -54,6 +57,15 @@ const TESTS: [Row; 24] = [
     ("damaged bytes", damage::some_values, 48, &[]),
     ("damaged records", damage::records, 100, &[]),
     ("lengths", damage::lengths, 100, &[]),
+    ("held runs", stepbacks::opened, 160, &[]),
+    ("odd held runs", stepbacks::odd, 100, &[]),
+    ("the longest held settle", stepbacks::longest_settle, 1, &[]),
+    ("foreign writes", stepbacks::foreign, 160, &[]),
+    ("invented slots", stepbacks::invented, 160, &[]),
+    ("buffers of other halls", stepbacks::other_halls, 100, &[]),
+    ("damaged buffers", stepbacks::damaged, 32, &[]),
+    ("lengths of buffers", stepbacks::lengths, 16, &[]),
+    ("flawed buffers", stepbacks::flawed, 160, &[]),
     ("run files of vectors", files::vectors, 1, &[]),
     ("damaged run files", files::damaged, 400, &[]),
     ("written run files", files::written, 200, &[]),
@@ -72,6 +84,7 @@ struct Options {
     first_seed: u64,
     every_value: bool,
     threads: usize,
+    from: Option<String>,
     stop: bool,
 }
 
@@ -82,6 +95,7 @@ fn options() -> Result<Options, String> {
         first_seed: 1,
         every_value: false,
         threads: thread::available_parallelism().map_or(1, usize::from),
+        from: None,
         stop: false,
     };
     let mut words = env::args().skip(1);
@@ -95,6 +109,7 @@ fn options() -> Result<Options, String> {
             "--part" => options.part = number()?.max(1),
             "--seed" => options.first_seed = number()?,
             "--threads" => options.threads = number()?.max(1) as usize,
+            "--from" => options.from = words.next(),
             "--every-value" => options.every_value = true,
             "--stop" => options.stop = true,
             _ => return Err(format!("{word} is no option")),
@@ -163,6 +178,9 @@ fn report_counts(counts: &Counts, mut missing: Vec<String>) -> bool {
     events.extend([damage::STILL_A_HALL, damage::NO_HALL, damage::SETTLED]);
     events.extend(margins::EVENTS);
     events.extend(files::EVENTS);
+    events.extend(bench::EVENTS);
+    events.extend(stepbacks::EVENTS);
+    events.extend([flaws::STEP, flaws::SETTLE, flaws::BACK].as_flattened());
     missing.extend(counts.missing_answers());
     missing.extend(counts.missing_events(&events));
     for what in &missing {
@@ -183,7 +201,8 @@ fn main() -> ExitCode {
     let mut missing = Vec::new();
     let mut passed = 0;
     let mut failed = 0;
-    for row in TESTS {
+    let is_first = |row: &Row| options.from.as_deref().is_none_or(|from| from == row.0);
+    for row in TESTS.into_iter().skip_while(|row| !is_first(row)) {
         let (name, test, seeds, own_events) = match row.0 {
             "damaged bytes" if options.every_value => EVERY_VALUE,
             _ => row,
@@ -212,7 +231,7 @@ fn main() -> ExitCode {
             break;
         }
     }
-    if failed == 0 {
+    if failed == 0 && options.from.is_none() {
         let well = report_counts(&sum, missing);
         *(if well { &mut passed } else { &mut failed }) += 1;
     }

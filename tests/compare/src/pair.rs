@@ -15,10 +15,10 @@ pub type Difference = String;
 
 pub struct Pair {
     /// The hall that the bytes hold; none if they are no hall's form.
-    hall: Option<Hall>,
+    pub(crate) hall: Option<Hall>,
     /// What the whole area must be.
-    wanted: Vec<u8>,
-    lent: Lent,
+    pub(crate) wanted: Vec<u8>,
+    pub(crate) lent: Lent,
 }
 
 /// What a slice for an answer holds before the call.
@@ -82,6 +82,18 @@ pub fn first_difference(is: &[u8], wanted: &[u8]) -> String {
     }
 }
 
+/// Compares an area that was lent with what it must be.
+pub fn compare_area(name: &str, lent: &Lent, wanted: &[u8]) -> Result<(), Difference> {
+    if lent.area() != wanted {
+        let what = first_difference(lent.area(), wanted);
+        return Err(format!("the {name}'s {what}"));
+    }
+    if !lent.guards_stand() {
+        return Err(format!("a byte outside the {name}'s slice was written"));
+    }
+    Ok(())
+}
+
 impl Pair {
     /// An area that holds what it holds, of which the first `length` bytes are
     /// lent.
@@ -123,25 +135,12 @@ impl Pair {
     }
 
     /// Compares all bytes; `answer` is the answer's area and what it must be.
-    fn compare(&self, answer: Option<(&Lent, Vec<u8>)>) -> Result<(), Difference> {
-        if self.lent.area() != self.wanted {
-            let what = first_difference(self.lent.area(), &self.wanted);
-            return Err(format!("the hall's {what}"));
+    pub(crate) fn compare(&self, answer: Option<(&Lent, Vec<u8>)>) -> Result<(), Difference> {
+        compare_area("hall", &self.lent, &self.wanted)?;
+        match answer {
+            Some((answer, wanted)) => compare_area("answer", answer, &wanted),
+            None => Ok(()),
         }
-        if !self.lent.guards_stand() {
-            return Err("a byte outside the hall's slice was written".to_string());
-        }
-        let Some((answer, wanted)) = answer else {
-            return Ok(());
-        };
-        if answer.area() != wanted {
-            let what = first_difference(answer.area(), &wanted);
-            return Err(format!("the answer's {what}"));
-        }
-        if !answer.guards_stand() {
-            return Err("a byte outside the answer's slice was written".to_string());
-        }
-        Ok(())
     }
 
     /// Compares a call's number, its answer and all bytes. Gives the number, and
@@ -161,7 +160,7 @@ impl Pair {
     }
 
     /// The same for a call that has left the hall as it is now.
-    fn compare_change(
+    pub(crate) fn compare_change(
         &mut self,
         number: u32,
         wanted: Result<[u32; WORDS], u32>,

@@ -8,6 +8,7 @@ use crate::page::Page;
 use crate::refusal;
 use crate::runfile::{action_at, read_run_file, write_run_file, Opening, BLOCK};
 use crate::stored;
+use crate::undo::Undo;
 
 /// Bytes of an answer, such as a page.
 pub const ANSWER_LENGTH: usize = 64;
@@ -128,6 +129,48 @@ pub fn settle_hall(hall: Option<&mut Hall>, room: bool) -> Result<[u32; WORDS], 
     Ok(words([steps.len() as u32]))
 }
 
+/// What a held step does with a hall and an undo buffer, or with bytes that are
+/// none: as a step.
+pub fn step_held_hall(
+    hall: Option<&mut Hall>,
+    undo: Option<&mut Undo>,
+    action: [u32; 4],
+    room: bool,
+) -> Result<[u32; WORDS], u32> {
+    judge_kind(action[0])?;
+    let hall = hall.ok_or(refusal::STORED_FORM)?;
+    let undo = undo.ok_or(refusal::UNDO)?;
+    if room {
+        return hall.step_held(undo, action).plain();
+    }
+    step_hall(Some(hall), action, false)
+}
+
+/// What a held settle does with a hall and an undo buffer, or with bytes that are
+/// none: as a settle.
+pub fn settle_held_hall(
+    hall: Option<&mut Hall>,
+    undo: Option<&mut Undo>,
+    room: bool,
+) -> Result<[u32; WORDS], u32> {
+    let hall = hall.ok_or(refusal::STORED_FORM)?;
+    hall.view_to_settle()?;
+    let undo = undo.ok_or(refusal::UNDO)?;
+    if !room {
+        return settle_hall(Some(hall), false);
+    }
+    let steps = hall.settle_held(undo)?;
+    Ok(words([steps.len() as u32]))
+}
+
+/// What a step back does with a hall and an undo buffer, or with bytes that are
+/// none.
+pub fn step_back_hall(hall: Option<&mut Hall>, undo: Option<&mut Undo>) -> Result<(), u32> {
+    let hall = hall.ok_or(refusal::STORED_FORM)?;
+    let undo = undo.ok_or(refusal::UNDO)?;
+    hall.step_back(undo)
+}
+
 /// What a page gives of a hall, or of bytes that are none, given whether there
 /// is room for it.
 pub fn page_of(hall: Option<&Hall>, r: u32, place: u32, room: bool) -> Result<[u32; WORDS], u32> {
@@ -164,6 +207,62 @@ fn try_settle(bytes: &mut [u8], answer: &mut [u8]) -> Result<(), u32> {
 /// Settles the hall in a slice; 31, 42, 40, 18.
 pub fn settle(bytes: &mut [u8], answer: &mut [u8]) -> u32 {
     number(try_settle(bytes, answer))
+}
+
+/// A hall and an undo buffer as two slices have them.
+fn read_bench(bytes: &[u8], undo: &[u8]) -> (Option<Hall>, Option<Undo>) {
+    (stored::read(bytes), Undo::read(undo))
+}
+
+/// Writes both back after a call that was performed.
+fn write_bench(bytes: &mut [u8], undo: &mut [u8], bench: (Option<Hall>, Option<Undo>)) {
+    stored::write(&bench.0.expect("a hall was changed"), bytes);
+    bench.1.expect("a buffer was lent").write(undo);
+}
+
+fn try_step_held(
+    bytes: &mut [u8],
+    undo: &mut [u8],
+    action: [u32; 4],
+    answer: &mut [u8],
+) -> Result<(), u32> {
+    judge_kind(action[0])?;
+    let mut bench = read_bench(bytes, undo);
+    let room = has_room(answer);
+    let words = step_held_hall(bench.0.as_mut(), bench.1.as_mut(), action, room)?;
+    put_words(answer, words);
+    write_bench(bytes, undo, bench);
+    Ok(())
+}
+
+/// Performs one action and holds it; 11, 31, 43, then the others, 18 last.
+pub fn step_held(bytes: &mut [u8], undo: &mut [u8], action: [u32; 4], answer: &mut [u8]) -> u32 {
+    number(try_step_held(bytes, undo, action, answer))
+}
+
+fn try_settle_held(bytes: &mut [u8], undo: &mut [u8], answer: &mut [u8]) -> Result<(), u32> {
+    let mut bench = read_bench(bytes, undo);
+    let words = settle_held_hall(bench.0.as_mut(), bench.1.as_mut(), has_room(answer))?;
+    put_words(answer, words);
+    write_bench(bytes, undo, bench);
+    Ok(())
+}
+
+/// Settles the hall and holds its steps; 31, 42, 43, 40, 18.
+pub fn settle_held(bytes: &mut [u8], undo: &mut [u8], answer: &mut [u8]) -> u32 {
+    number(try_settle_held(bytes, undo, answer))
+}
+
+fn try_step_back(bytes: &mut [u8], undo: &mut [u8]) -> Result<(), u32> {
+    let mut bench = read_bench(bytes, undo);
+    step_back_hall(bench.0.as_mut(), bench.1.as_mut())?;
+    write_bench(bytes, undo, bench);
+    Ok(())
+}
+
+/// Takes back the newest action held; 31, 43.
+pub fn step_back(bytes: &mut [u8], undo: &mut [u8]) -> u32 {
+    number(try_step_back(bytes, undo))
 }
 
 fn try_page(bytes: &[u8], r: u32, place: u32, page: &mut [u8]) -> Result<(), u32> {

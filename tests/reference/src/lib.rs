@@ -14,7 +14,10 @@
 //! - `page`: the page of a recorder.
 //! - `check`: whether all fields are in range.
 //! - `stored`: the stored form, read and written.
-//! - `calls`: open, step, settle, page and run files on lent bytes.
+//! - `undo`: the undo buffer, read and written.
+//! - `stepback`: held steps, held settles and steps back.
+//! - `kept`: steps back by whole halls, to test these.
+//! - `calls`: open, step, settle, step back, page and run files on lent bytes.
 //! - `runfile` and `listing`: run files and the listing of a replay.
 //! - `refusal`: the numbers of the refusals.
 
@@ -26,12 +29,15 @@ pub mod check;
 pub mod choice;
 pub mod exchange;
 pub mod hall;
+pub mod kept;
 pub mod listing;
 pub mod page;
 pub mod refusal;
 pub mod runfile;
 pub mod settle;
+pub mod stepback;
 pub mod stored;
+pub mod undo;
 
 pub use actions::Answer;
 pub use hall::{

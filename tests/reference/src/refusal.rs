@@ -42,3 +42,6 @@ pub const FULL: u32 = 40;
 pub const VOTES: u32 = 41;
 /// The view with the greatest number is missing or not primary.
 pub const NOT_PRIMARY: u32 = 42;
+/// The undo buffer is too short or not in its form, or the newest action held, if
+/// there is one, cannot be taken back.
+pub const UNDO: u32 = 43;

@@ -29,13 +29,17 @@ impl Hall {
         self.views.iter().max_by_key(|view| view.number)
     }
 
+    /// The view that a settle is made in, or 42.
+    pub fn view_to_settle(&self) -> Result<&View, u32> {
+        let greatest = self.greatest_view();
+        let primary = greatest.filter(|view| self.is_primary(view));
+        primary.ok_or(refusal::NOT_PRIMARY)
+    }
+
     /// Settles the hall and gives the steps taken; 42, 40. A refused settle
     /// changes nothing.
     pub fn settle(&mut self) -> Result<Vec<[u32; 4]>, u32> {
-        let greatest = self.greatest_view().ok_or(refusal::NOT_PRIMARY)?;
-        if !self.is_primary(greatest) {
-            return Err(refusal::NOT_PRIMARY);
-        }
+        let greatest = self.view_to_settle()?;
         let (number, members) = (greatest.number, greatest.members);
         let mut settled = self.clone();
         let mut steps = Vec::new();

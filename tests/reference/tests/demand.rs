@@ -22,6 +22,9 @@
 //! nor for a settle that leaves out a kind, a step or 42, which shows that these
 //! runs can fail.
 
+mod random;
+
+use random::Random;
 use reference::choice::{
     greatest_number, least_number, length_first, longest_order, trying, Choice, Source,
 };
@@ -65,7 +68,7 @@ enum Rows {
 /// A row that passes, of any kind: small votes, any, the same for all, all for
 /// one, or all for two.
 fn random_row(random: &mut Random, n: u32) -> Votes {
-    let most = random.pick(&[1, 3, MOST_VOTES]);
+    let most = pick(random, &[1, 3, MOST_VOTES]);
     let mut row = [0; 8];
     match random.below(6) {
         0 => row[..n as usize].fill(most),
@@ -118,33 +121,9 @@ fn hold(holds: bool, broken: Broken) -> Result<(), Broken> {
     }
 }
 
-/// A small generator of random numbers (splitmix64).
-struct Random(u64);
-
-impl Random {
-    fn next(&mut self) -> u64 {
-        self.0 = self.0.wrapping_add(0x9e37_79b9_7f4a_7c15);
-        let mut z = self.0;
-        z = (z ^ (z >> 30)).wrapping_mul(0xbf58_476d_1ce4_e5b9);
-        z = (z ^ (z >> 27)).wrapping_mul(0x94d0_49bb_1331_11eb);
-        z ^ (z >> 31)
-    }
-
-    fn below(&mut self, limit: u32) -> u32 {
-        (self.next() % u64::from(limit)) as u32
-    }
-
-    fn between(&mut self, least: u32, most: u32) -> u32 {
-        least + self.below(most - least + 1)
-    }
-
-    fn one_in(&mut self, limit: u32) -> bool {
-        self.below(limit) == 0
-    }
-
-    fn pick(&mut self, list: &[u32]) -> u32 {
-        list[self.below(list.len() as u32) as usize]
-    }
+/// One of a list.
+fn pick(random: &mut Random, list: &[u32]) -> u32 {
+    list[random.below(list.len() as u32) as usize]
 }
 
 /// How the actions of a run are chosen.
@@ -161,14 +140,14 @@ struct Style {
 impl Style {
     fn random(random: &mut Random, n: u32) -> Style {
         let steps = random.between(1_000, 4_000);
-        let submit = random.pick(&[8, 16, 40]);
-        let form = random.pick(&[2, 6, 14]);
+        let submit = pick(random, &[8, 16, 40]);
+        let form = pick(random, &[2, 6, 14]);
         Style {
             // Large halls need more steps to complete a view.
             steps: if n > 4 { 2 * steps } else { steps },
             weights: [submit, 60, 60, 60, form, 60, 150, 300, 250, 100, 60],
-            slow_for: random.pick(&[200, 400, 800]),
-            apart: random.pick(&[3, 300, 1 << 28]),
+            slow_for: pick(random, &[200, 400, 800]),
+            apart: pick(random, &[3, 300, 1 << 28]),
         }
     }
 
@@ -263,7 +242,7 @@ fn fits(hall: &Hall, kind: u32, r: u32) -> bool {
 
 fn junk_action(random: &mut Random) -> [u32; 4] {
     const WORDS: [u32; 9] = [0, 1, 2, 3, 8, 12, 255, 256, u32::MAX];
-    let mut word = || random.pick(&WORDS);
+    let mut word = || pick(random, &WORDS);
     let [r, a, b] = [word(), word(), word()];
     [random.below(13), r, a, b]
 }
@@ -287,7 +266,7 @@ fn view_to_enter(random: &mut Random, hall: &Hall, r: u32) -> u32 {
     match numbers.last() {
         None => 1,
         Some(&newest) if random.one_in(2) => newest,
-        Some(_) => random.pick(&numbers),
+        Some(_) => pick(random, &numbers),
     }
 }
 
@@ -696,7 +675,7 @@ fn random_run(
     // the places of settles.
     let mut of_rows = Random(!seed);
     let mut of_settles = Random(seed << 32);
-    let between_settles = of_settles.pick(&[60, 400, 2_000]);
+    let between_settles = pick(&mut of_settles, &[60, 400, 2_000]);
     let n = random.between(1, 8);
     let founders = random.below(1 << n);
     let style = Style::random(&mut random, n);

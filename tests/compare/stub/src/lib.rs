@@ -1,10 +1,11 @@
 //! The calls of `include/hall.h` over the second implementation, right or with
-//! one of the mistakes here, in `numbers`, in `choices`, in `votes` and in
-//! `settles`, which HALL_FAULT names.
+//! one of the mistakes here, in `numbers`, in `choices`, in `votes`, in `settles`
+//! and in `stepbacks`, which HALL_FAULT names.
 
 mod choices;
 mod numbers;
 mod settles;
+mod stepbacks;
 mod votes;
 
 use reference::actions::judge_kind;
@@ -126,6 +127,58 @@ pub unsafe extern "C" fn hall_settle(
         return number;
     }
     settles::settle(hall, answer)
+}
+
+/// # Safety
+/// As in `include/hall.h`.
+#[no_mangle]
+pub unsafe extern "C" fn hall_step_held(
+    hall: *mut u8,
+    hall_len: usize,
+    undo: *mut u8,
+    undo_len: usize,
+    k: u32,
+    r: u32,
+    a: u32,
+    b: u32,
+    answer: *mut u8,
+    answer_len: usize,
+) -> u32 {
+    let hall = from_raw_parts_mut(hall, hall_len);
+    let undo = from_raw_parts_mut(undo, undo_len);
+    let answer = from_raw_parts_mut(answer, answer_len);
+    stepbacks::step_held(hall, undo, [k, r, a, b], answer)
+}
+
+/// # Safety
+/// As in `include/hall.h`.
+#[no_mangle]
+pub unsafe extern "C" fn hall_settle_held(
+    hall: *mut u8,
+    hall_len: usize,
+    undo: *mut u8,
+    undo_len: usize,
+    answer: *mut u8,
+    answer_len: usize,
+) -> u32 {
+    let hall = from_raw_parts_mut(hall, hall_len);
+    let undo = from_raw_parts_mut(undo, undo_len);
+    let answer = from_raw_parts_mut(answer, answer_len);
+    stepbacks::settle_held(hall, undo, answer)
+}
+
+/// # Safety
+/// As in `include/hall.h`.
+#[no_mangle]
+pub unsafe extern "C" fn hall_step_back(
+    hall: *mut u8,
+    hall_len: usize,
+    undo: *mut u8,
+    undo_len: usize,
+) -> u32 {
+    let hall = from_raw_parts_mut(hall, hall_len);
+    let undo = from_raw_parts_mut(undo, undo_len);
+    stepbacks::step_back(hall, undo)
 }
 
 /// # Safety
