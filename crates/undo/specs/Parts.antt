@@ -1,4 +1,4 @@
--- The two parts of a hall's bytes that an action writes, at most, by its kind (docs/undo-buffer.md), and the slot of an
+-- The two parts of a hall's bytes that an action writes, at most, by its kind (02, A7; docs/undo-buffer.md), and the slot of an
 -- action on these bytes.
 -- Assumes nothing.
 use Prim.Native.Nat.{ℕ, _+_, _-_, _*_}
