@@ -3,11 +3,11 @@
  *
  *     group_page [--record FILE] N FOUNDERS RECORDER [V1 V2 V3 V4 V5 V6 V7 V8] < ACTIONS
  *
- * Opens a hall of N recorders. FOUNDERS is the set of the first view, a mask
- * with bit k - 1 for recorder k; 0 or the word `whole` is the whole hall. V1 to
- * V8 are the votes of recorders 1 to 8, 0 above N; without them recorder 1 has 2
- * votes and each other one 1. Then takes actions from standard input and last
- * shows the group page of RECORDER.
+ * Opens a hall of N recorders. FOUNDERS is the set of the first view: a mask
+ * with bit k - 1 for recorder k, where 0 means recorder 1 alone, or the word
+ * `whole` for the whole hall. V1 to V8 are the votes of recorders 1 to 8, 0 above
+ * N; without them recorder 1 has 2 votes and each other one 1. Then takes actions
+ * from standard input and last shows the group page of RECORDER.
  *
  * A line of the input is one of
  *     K R A B    an action: kind, recorder, two arguments, 0 where unused
@@ -638,10 +638,18 @@ static int write_record(struct run *run)
 
 /* -- The program --------------------------------------------------------- */
 
-static int take_founders(const char *text, uint32_t *founders)
+/* The set of recorders 1 to n; none if no hall has n of them. */
+static uint32_t all_recorders(uint32_t n)
+{
+    return n <= HALL_RECORDERS ? (1u << n) - 1 : 0;
+}
+
+/* Takes the founders of a hall of n: a mask, or the word for the whole hall.
+ * Whether that went well. */
+static int take_founders(const char *text, uint32_t n, uint32_t *founders)
 {
     if (strcmp(text, "whole") == 0) {
-        *founders = 0; /* the open call's word for all recorders */
+        *founders = all_recorders(n);
         return 1;
     }
     return take_numbers(text, founders, 1);
@@ -723,7 +731,7 @@ static int take_votes(int words, char **texts, struct run *run)
 /* Takes N, FOUNDERS, RECORDER and the votes. Whether that went well. */
 static int take_opening(int words, char **texts, struct run *run, uint32_t *recorder)
 {
-    return words >= 3 && take_numbers(texts[0], &run->n, 1) && take_founders(texts[1], &run->founders) &&
+    return words >= 3 && take_numbers(texts[0], &run->n, 1) && take_founders(texts[1], run->n, &run->founders) &&
            take_numbers(texts[2], recorder, 1) && take_votes(words - 3, texts + 3, run);
 }
 
@@ -747,7 +755,7 @@ int main(int argc, char **argv)
         status = end_output() && well ? 0 : 1;
     } else {
         fputs("usage: group_page [--record FILE] N FOUNDERS RECORDER [V1 V2 V3 V4 V5 V6 V7 V8] < ACTIONS\n"
-              "FOUNDERS is a mask with bit k - 1 for recorder k; 0 or the word whole is the whole hall\n"
+              "FOUNDERS is a mask with bit k - 1 for recorder k, or whole for all of them; 0 means recorder 1 alone\n"
               "V1 to V8 are the votes of recorders 1 to 8; without them recorder 1 has 2 and each other one 1\n",
               stderr);
     }

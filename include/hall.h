@@ -207,7 +207,8 @@ enum hall_refusal {
 
 /*
  * Opens a hall of n recorders in the first HALL_LENGTH bytes of `hall`, with
- * the set `founders` as view 1; 0 means all recorders. v1 to v8 are the votes of
+ * the set `founders` as view 1: a mask with bit k - 1 for recorder k, for the
+ * whole hall (1u << n) - 1; 0 means recorder 1 alone. v1 to v8 are the votes of
  * recorders 1 to 8. What these bytes held before does not matter.
  *
  * Returns HALL_OK; 16; 41; or 18 if hall_len is below HALL_LENGTH.
@@ -367,7 +368,7 @@ static inline int32_t hall_signed(const uint8_t *words, size_t i)
 /* Words of the opening of a run file. */
 enum hall_run_word {
     HALL_RUN_SIZE = 0,       /* N, the number of recorders */
-    HALL_RUN_FOUNDERS = 1,   /* the founders, 0 for all recorders */
+    HALL_RUN_FOUNDERS = 1,   /* the founders as written, 0 for recorder 1 alone */
     HALL_RUN_START = 2,      /* offset of the first action */
     HALL_RUN_START_HIGH = 3, /* its high word */
     HALL_RUN_COUNT = 4,      /* how many actions there are */

@@ -6,12 +6,12 @@ use compare::halls;
 use compare::library::Lent;
 use compare::random::Random;
 use reference::hall::{
-    Entry, Label, Message, Phase, Queued, Recorder, Seat, Summary, View, MOST_VOTES,
+    all_recorders, Entry, Label, Message, Phase, Queued, Recorder, Seat, Summary, View, MOST_VOTES,
 };
 use reference::runfile::MOST_ACTIONS;
 use reference::settle::turn_actions;
 use reference::stored::{self, LENGTH};
-use reference::{open_built_in, write_run_file, Answer, Hall, Opening};
+use reference::{open_built_in, open_whole, write_run_file, Answer, Hall, Opening};
 
 /// An opening and actions, at most as many as a run file takes.
 pub struct Run {
@@ -25,7 +25,7 @@ impl Run {
     /// Random actions, as many as a run file takes.
     pub fn random(n: u32, seed: u64) -> Run {
         let mut random = Random::new("bench", seed);
-        let mut hall = open_built_in(n, 0).expect("the opening is taken");
+        let mut hall = open_whole(n);
         let weights = Weights::random(&mut random);
         let mut actions = Vec::new();
         while actions.len() < MOST_ACTIONS {
@@ -37,7 +37,7 @@ impl Run {
         Run {
             name: format!("N = {n}"),
             n,
-            founders: 0,
+            founders: all_recorders(n),
             actions,
         }
     }
@@ -86,7 +86,7 @@ struct Going {
 impl Going {
     fn open() -> Going {
         Going {
-            hall: open_built_in(8, 255).expect("the opening is taken"),
+            hall: open_whole(8),
             taken: Vec::new(),
         }
     }
@@ -174,7 +174,7 @@ fn snapshot(hall: &Hall) -> Snapshot {
 
 /// A hall that was just opened for all recorders.
 fn empty_hall(n: u32) -> Snapshot {
-    snapshot(&open_built_in(n, 0).expect("the opening is taken"))
+    snapshot(&open_whole(n))
 }
 
 /// Halls along a run, evenly spread.

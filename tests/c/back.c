@@ -298,7 +298,7 @@ static void example(void)
     static const uint8_t label[] = {2, 0, 0, 0, 1, 0, 0, 0, 0, 0, 0, 0, 0, 0, 0, 0, 0x23, 3, 0, 0, 0x1e, 1, 0, 0, 1};
     static const uint8_t label_second[] = {0xa3, 0, 0, 0, 0x0a, 0, 0, 0, 1, 0xbc, 2};
     uint8_t wanted[HALL_UNDO_LENGTH] = {0};
-    struct bench bench = open_bench(3, 0);
+    struct bench bench = open_bench(3, 7);
 
     CHECK(steps(&bench, HALL_SUBMIT, 1, 700, 0));
     memcpy(wanted, submit, sizeof submit);
@@ -321,7 +321,7 @@ static void example(void)
 static void each_kind(void)
 {
     uint8_t *before[ALL_KINDS];
-    struct bench bench = open_bench(2, 0);
+    struct bench bench = open_bench(2, 3);
 
     CHECK(stays(&bench));
     for (size_t i = 0; i < ALL_KINDS; i++) {
@@ -349,7 +349,7 @@ static void each_kind(void)
 static void seventeenth(void)
 {
     uint8_t *before[HALL_MAX_UNDO + 1];
-    struct bench bench = open_bench(8, 0);
+    struct bench bench = open_bench(8, 255);
 
     for (uint32_t i = 0; i <= HALL_MAX_UNDO; i++) {
         before[i] = copy_of(bench.hall, HALL_LENGTH);
@@ -451,7 +451,7 @@ static void settle_taken_back(uint32_t n, uint32_t entries, uint32_t count)
 {
     uint8_t *halls[MOST_KEPT];
     uint32_t taken = 0;
-    struct bench bench = open_bench(n, 0);
+    struct bench bench = open_bench(n, (1u << n) - 1);
     for (uint32_t i = 0; i < entries; i++) {
         CHECK(steps(&bench, HALL_SUBMIT, i % n + 1, 700 + i, 0));
     }
@@ -502,7 +502,7 @@ static void settles_taken_back(void)
  * taken, and a settle then takes 16 steps and comes to the same bytes. */
 static void longest_settle(void)
 {
-    struct bench bench = open_bench(8, 0);
+    struct bench bench = open_bench(8, 255);
     for (uint32_t i = 0; i < HALL_MAX_ENTRIES; i++) {
         CHECK(steps(&bench, HALL_SUBMIT, i % 8 + 1, i, 0));
     }
@@ -531,8 +531,8 @@ static void longest_settle(void)
  * back, and the others' stay. */
 static void foreign_elsewhere(void)
 {
-    struct bench bench = open_bench(3, 0);
-    struct bench other = open_bench(3, 0);
+    struct bench bench = open_bench(3, 7);
+    struct bench other = open_bench(3, 7);
 
     CHECK(steps(&bench, HALL_SUBMIT, 1, 5, 0));
     CHECK(steps(&bench, HALL_FORM, 0, 2, 7));
@@ -557,7 +557,7 @@ static void foreign_elsewhere(void)
  * refuses the action, the action leads to other bytes. */
 static void foreign_inside(void)
 {
-    struct bench bench = open_bench(3, 0);
+    struct bench bench = open_bench(3, 7);
     uint8_t *opened = copy_of(bench.hall, HALL_LENGTH);
 
     /* A second entry past the number of entries. */
@@ -605,7 +605,7 @@ static void invented_slots(void)
     static const uint8_t count_and_junk[1 + ENTRY_SIZE] = {0, 3, 3, 3, 3, 3, 3, 3, 3, 3, 3};
     static const uint8_t zeros[SECOND_ROOM] = {0};
     const struct part cell = {ENTRIES, ENTRY_SIZE}, both = {ENTRY_COUNT, 1 + ENTRY_SIZE};
-    struct bench bench = open_bench(3, 0);
+    struct bench bench = open_bench(3, 7);
     uint8_t *opened = copy_of(bench.hall, HALL_LENGTH);
     CHECK(steps_apart(bench.hall, HALL_SUBMIT, 1, 700, 0));
     uint8_t *submitted = copy_of(bench.hall, HALL_LENGTH);
@@ -726,13 +726,13 @@ static int all_refuse(const struct bench *bench)
 /* Buffers that are not in form, at the edges of each rule. */
 static void wrong_forms(void)
 {
-    struct bench bench = one_held(3, 0);
+    struct bench bench = one_held(3, 7);
     uint8_t *opened = filled(HALL_LENGTH, 0);
     uint8_t *right = copy_of(bench.undo, HALL_UNDO_LENGTH);
     const struct {
         size_t at, room;
     } parts[] = {{1 + FIRST, FIRST_ROOM}, {1 + SECOND, SECOND_ROOM}};
-    CHECK(hall_open_built_in(opened, HALL_LENGTH, 3, 0) == 0);
+    CHECK(hall_open_built_in(opened, HALL_LENGTH, 3, 7) == 0);
 
     /* The count: above 16, and less or more than the slots. */
     bench.undo[0] = HALL_MAX_UNDO + 1;
@@ -797,7 +797,7 @@ static void wrong_forms(void)
     CHECK(steps(&bench, HALL_SUBMIT, 1, 17, 0));
 
     /* All of it right again. */
-    struct bench again = one_held(3, 0);
+    struct bench again = one_held(3, 7);
     CHECK(memcmp(again.undo, right, HALL_UNDO_LENGTH) == 0);
     CHECK(steps_back_to(&again, opened));
     free_bench(&again);
@@ -811,9 +811,9 @@ static void refusals_in_order(void)
 {
     static const uint32_t no_kind[4] = {12, 9, 0, 0}, no_recorder[4] = {HALL_SUBMIT, 9, 5, 0};
     static const uint32_t submit[4] = {HALL_SUBMIT, 1, 5, 0}, early[4] = {HALL_RECEIVE, 1, 0, 0};
-    struct bench bench = one_held(3, 0);
+    struct bench bench = one_held(3, 7);
     struct bench yard = open_bench(3, 6); /* {2, 3} is not primary */
-    struct bench full = one_held(1, 0);
+    struct bench full = one_held(1, 1);
     uint8_t *junk = filled(HALL_LENGTH, 0x5a);
     const struct lent right = lent_of(&bench);
     struct lent lent = right;
@@ -884,7 +884,7 @@ static void longer_slices(void)
 {
     enum { REST = 1000, ODD = 3 };
     const uint32_t done[] = {HALL_CASE_DONE}, settled[] = {7};
-    struct bench bench = open_bench(1, 0);
+    struct bench bench = open_bench(1, 1);
     uint8_t *hall_memory = filled(ODD + HALL_LENGTH + REST, 0xa5), *hall = hall_memory + ODD;
     uint8_t *undo_memory = filled(ODD + HALL_UNDO_LENGTH + REST, 0xa5), *undo = undo_memory + ODD;
     uint8_t *answer_memory = filled(ODD + HALL_ANSWER_LENGTH + REST, 0xa5), *answer = answer_memory + ODD;

@@ -283,15 +283,33 @@ static void built_in_votes(void)
     for (uint32_t n = 1; n <= HALL_RECORDERS; n++) {
         uint32_t votes[HALL_RECORDERS] = {0};
         memcpy(votes, row, n * sizeof *row);
-        CHECK(hall_open_built_in(one, HALL_LENGTH, n, 0) == 0);
-        CHECK(hall_open_row(other, HALL_LENGTH, n, 0, votes) == 0);
+        uint32_t all = (1u << n) - 1;
+        CHECK(hall_open_built_in(one, HALL_LENGTH, n, all) == 0);
+        CHECK(hall_open_row(other, HALL_LENGTH, n, all, votes) == 0);
         CHECK(memcmp(one, other, HALL_LENGTH) == 0);
-        CHECK(hall_open(other, HALL_LENGTH, n, 0, votes[0], votes[1], votes[2], votes[3], votes[4], votes[5],
+        CHECK(hall_open(other, HALL_LENGTH, n, all, votes[0], votes[1], votes[2], votes[3], votes[4], votes[5],
                         votes[6], votes[7]) == 0);
         CHECK(memcmp(one, other, HALL_LENGTH) == 0);
     }
     free(other);
     free(one);
+}
+
+/* Founders 0 open the same hall as founders 1: recorder 1 alone, with any votes. */
+static void founders_zero(void)
+{
+    uint8_t *zero = filled(HALL_LENGTH, 0x5a);
+    uint8_t *one = filled(HALL_LENGTH, 0xa5);
+    for (uint32_t n = 1; n <= HALL_RECORDERS; n++) {
+        CHECK(hall_open_built_in(zero, HALL_LENGTH, n, 0) == 0);
+        CHECK(hall_open_built_in(one, HALL_LENGTH, n, 1) == 0);
+        CHECK(memcmp(zero, one, HALL_LENGTH) == 0);
+    }
+    CHECK(hall_open(zero, HALL_LENGTH, 3, 0, 0, 0, 1, 0, 0, 0, 0, 0) == 0);
+    CHECK(hall_open(one, HALL_LENGTH, 3, 1, 0, 0, 1, 0, 0, 0, 0, 0) == 0);
+    CHECK(memcmp(zero, one, HALL_LENGTH) == 0);
+    free(one);
+    free(zero);
 }
 
 /* Whether an opening with one vote changed gives a number, and leaves a slice
@@ -338,7 +356,7 @@ static void stored_votes(void)
     const size_t votes = HALL_LENGTH - 4 * HALL_RECORDERS;
     uint8_t *hall = filled(HALL_LENGTH, 0);
 
-    CHECK(hall_open_row(hall, HALL_LENGTH, 3, 0, site) == 0);
+    CHECK(hall_open_row(hall, HALL_LENGTH, 3, 7, site) == 0);
     for (size_t i = 0; i < HALL_RECORDERS; i++) {
         CHECK(hall_word(hall + votes, i) == site[i]);
     }
@@ -570,7 +588,7 @@ static void refused_calls(void)
     CHECK(step_refused(hall, HALL_ENTER, 9, 0, 0, HALL_REFUSED_BYTES));
     CHECK(page_refused(hall, HALL_LENGTH, 9, 0, 0, HALL_REFUSED_BYTES));
 
-    CHECK(hall_open_built_in(hall, HALL_LENGTH, 8, 0) == 0);
+    CHECK(hall_open_built_in(hall, HALL_LENGTH, 8, 255) == 0);
     CHECK(step_refused(hall, 0, 1, 0, 0, HALL_REFUSED_KIND));
     CHECK(step_refused(hall, HALL_ENTER, 9, 0, 0, HALL_REFUSED_RECORDER));
     CHECK(step_refused(hall, HALL_LABEL, 1, 0, 1, HALL_REFUSED_UNUSED));
@@ -604,7 +622,7 @@ static void longer_slices(void)
     uint8_t *hall = filled(HALL_LENGTH + rest, 0xa5);
     uint8_t *answer = filled(HALL_ANSWER_LENGTH + rest, 0xa5);
 
-    CHECK(hall_open_built_in(hall, HALL_LENGTH + rest, 2, 0) == 0);
+    CHECK(hall_open_built_in(hall, HALL_LENGTH + rest, 2, 3) == 0);
     CHECK(hall_step(hall, HALL_LENGTH + rest, HALL_SUBMIT, 2, 5, 0, answer, HALL_ANSWER_LENGTH + rest) == 0);
     CHECK(words_are(answer, rest, done, 1));
     CHECK(hall_settle(hall, HALL_LENGTH + rest, answer, HALL_ANSWER_LENGTH + rest) == 0);
@@ -906,6 +924,7 @@ int main(void)
     margins_of_votes();
     primary_by_votes();
     built_in_votes();
+    founders_zero();
     refused_votes();
     stored_votes();
     settled_halls();

@@ -74,7 +74,7 @@ static const uint32_t votes[HALL_RECORDERS] = {5, 3, 3, 1, 1, 1, 1, 1};
 
 static void open_row(void)
 {
-    number = hall_open_row(hall, sizeof hall, 8, 0, votes);
+    number = hall_open_row(hall, sizeof hall, 8, 255, votes);
 }
 
 static void write_votes(void)

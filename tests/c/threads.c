@@ -135,7 +135,7 @@ static int is_longest_order(void)
 /* All entries wait, and nobody has entered the new view. */
 static uint32_t prepare_longest_settle(void)
 {
-    uint32_t refused = hall_open_built_in(hall, sizeof hall, 8, 0);
+    uint32_t refused = hall_open_built_in(hall, sizeof hall, 8, 255);
     for (uint32_t i = 0; i < HALL_MAX_ENTRIES; i++) {
         refused |= step(HALL_SUBMIT, i % 8 + 1, i, 0);
     }

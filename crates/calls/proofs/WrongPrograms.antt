@@ -17,7 +17,7 @@ use Rattle.model.specs.Kinds.{receive, submit, kinds, kindOf, inputRefusal}
 use Rattle.model.specs.Answers.{Answer, done, refused, plain, accepted}
 use Rattle.model.specs.Refusals.{noneToReceive, stateRefusal}
 use Rattle.model.specs.Actions.{Outcome, doSubmit, perform, refusal, act}
-use Rattle.model.specs.Opening.{Opening, builtInOpening, openRecorders, openHall, opened}
+use Rattle.model.specs.Opening.{Opening, openRecorders, openHall, opened}
 use Rattle.model.specs.Page.{Page, PageAnswer, shown, pageOf, pageRefusal, page}
 use Rattle.model.specs.Call.{Words, wordsOf, WordsIn, hl3, step}
 use Rattle.model.specs.Run.{run}
@@ -31,7 +31,7 @@ use Rattle.store.specs.StoredForm.{stored, hallOf, isStored}
 use Rattle.store.proofs.StoredFormLaws.{stored-isStored, hallOf-stored, hallOf-valid, stored-slice}
 use Rattle.store.proofs.KeepValid.{step-valid, run-valid, open-valid}
 use Rattle.calls.specs.Calls.{withHall, stepOn, openNumber, openOn, pageOn, runOn}
-use Rattle.calls.specs.WrongPrograms.{Program, Agrees, Differs, Inhabited, EachSort, openedIn, turnsDownAll, okToAll, neverMoves, okAfterwards, runOf, OnlySubmits, MarkAbove, alongRun, inventsMarks, sentOne, refusesFirst, ReceiveRefused, refusesOnce, wrongSorts}
+use Rattle.calls.specs.WrongPrograms.{Program, Agrees, Differs, Inhabited, EachSort, twoFounders, openedIn, turnsDownAll, okToAll, neverMoves, okAfterwards, runOf, OnlySubmits, MarkAbove, alongRun, inventsMarks, sentOne, refusesFirst, ReceiveRefused, refusesOnce, wrongSorts}
 use Rattle.calls.proofs.OpenLaws.{open-taken, open-done}
 use Rattle.calls.proofs.RunLaw.{step-stored, run-stored}
 
@@ -80,15 +80,15 @@ open-holds b o t = let e = open-done b o t in record { rest = _; valid = open-va
 -- ## Calls on an opened hall of two recorders
 
 abbrev two : Hall
-two = opened (builtInOpening 2 0)
+two = opened twoFounders
 
 module _ (b : List ℕ) (l : storedLength ≤ length b) where
-  two-taken : openOn b (builtInOpening 2 0) .number ≡ 0
+  two-taken : openOn b twoFounders .number ≡ 0
   unfolding openNumber refuse _⨾_ computing
-  two-taken = open-taken b (builtInOpening 2 0) (ap (λ t. refuse t 18) (le-ltb (length b) storedLength l)) .0
+  two-taken = open-taken b twoFounders (ap (λ t. refuse t 18) (le-ltb (length b) storedLength l)) .0
 
   two-holds : (ws : List Words) → WordsIn ws → Holds (openedIn b ws) (run hl3 two ws)
-  two-holds ws low = run-holds _ two (open-holds b (builtInOpening 2 0) two-taken) ws low
+  two-holds ws low = run-holds _ two (open-holds b twoFounders two-taken) ws low
 
   -- a program that agrees there accepts what the model does
   two-accepts : (p : Program) (ws : List Words) → WordsIn ws → (w : Words) → p .step (openedIn b ws) w ≡ stepOn (openedIn b ws) w
@@ -315,7 +315,7 @@ wrong-sorts-inhabited =
     above =
         record {
           slice = zeros storedLength;
-          opening = builtInOpening 2 0;
+          opening = twoFounders;
           taken = two-taken (zeros storedLength) enough;
           calls = [];
           words = tt;

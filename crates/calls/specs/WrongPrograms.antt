@@ -50,9 +50,13 @@ abbrev pub EachSort : (Sort → Type 0) → List Sort → Type 0
 EachSort P [] = Unit {0}
 EachSort P (s ∷ ss) = P s × EachSort P ss
 
--- the bytes of a slice in which a hall of two recorders was opened, and then these calls were made
+-- a hall of two recorders, both founders
+abbrev pub twoFounders : Opening
+twoFounders = builtInOpening 2 3
+
+-- the bytes of a slice in which it was opened, and then these calls were made
 abbrev pub openedIn : List ℕ → List Words → List ℕ
-openedIn b ws = runOn (openOn b (builtInOpening 2 0) .bytes) ws
+openedIn b ws = runOn (openOn b twoFounders .bytes) ws
 
 -- ## The sorts, in the words of 01, and after the colon what the definition does
 

@@ -1,5 +1,5 @@
--- The P cards of 01's "Bench cards", and the margins, view numbers, representative, rows and settles that 02 names, one list; the
--- proof over it is in proofs/Cards. A card is what the definitions give and what 01 or 02 says, as lists of numbers.
+-- The P cards of 01's "Bench cards", and the margins, view numbers, representative, rows, settles and founders that 02 names, one
+-- list; the proof over it is in proofs/Cards. A card is what the definitions give and what 01 or 02 says, as lists of numbers.
 -- Assumes nothing.
 use Prim.Native.Nat.{ℕ}
 use mathlib.Core.Bool.{true, false}
@@ -14,7 +14,7 @@ use Rattle.model.specs.Refusals.{rulesOf}
 use Rattle.model.specs.Opening.{Opening, openingOf, builtInOpening, openRefusal, opened}
 use Rattle.model.specs.Call.{Words, wordsOf, hl3, broken, step, call}
 use Rattle.model.specs.Run.{run, answers}
-use Rattle.model.specs.Settle.{settle, plainSettle}
+use Rattle.model.specs.Settle.{settle, plainSettle, action, settling, runCalls}
 use Rattle.model.specs.RunFile.{FileOpening, rowGiven, RunText, fileBytes}
 use Rattle.model.specs.Listing.{listing}
 
@@ -76,12 +76,13 @@ sizeCard =
       wanted = 16 ∷ 16 ∷ 0 ∷ [];
     }
 
--- "P N 3, founders 0: view 1 is {1, 2, 3}; founders 8: 16."
+-- "P N 3, founders 0: view 1 is {1, 2, 3}; founders 8: 16." But "The bench card for N = 3 and founders 0 now gives view 1
+-- as {1}." (02, A8)
 unfoldable pub foundersCard : Card
 foundersCard =
     record {
       given = openRefusal (builtInOpening 3 8) ∷ openRefusal (builtInOpening 3 0) ∷ opened (builtInOpening 3 0) .service .members 1;
-      wanted = 16 ∷ 0 ∷ 1 ∷ 2 ∷ 3 ∷ [];
+      wanted = 16 ∷ 0 ∷ 1 ∷ [];
     }
 
 -- "P N 3: {2, 3} no quorum, {1, 2} one. P N 4: {2, 3, 4} one, {3, 4} none."
@@ -281,7 +282,7 @@ unfoldable pub safeCard : Card
 safeCard =
     record {
       given =
-          numbersOf (builtInOpening 2 0)
+          numbersOf (builtInOpening 2 3)
           (wordsOf 1 1 5 0 ∷ wordsOf 2 1 0 0 ∷ wordsOf 3 1 0 0 ∷ wordsOf 7 1 1 0 ∷ wordsOf 8 1 0 0 ∷ wordsOf 9 1 0 0 ∷ []);
       wanted = 0 ∷ 0 ∷ 0 ∷ 0 ∷ 0 ∷ 39 ∷ [];
     }
@@ -308,6 +309,33 @@ settleCard =
       wanted = 0 ∷ 7 ∷ 0 ∷ 45 ∷ 0 ∷ 36 ∷ 0 ∷ 0 ∷ 42 ∷ 0 ∷ [];
     }
 
+-- "Commissioning now begins with one recorder, and others join by a view." (02, A8) Recorder 1 of three is alone in view 1,
+-- which is not primary: its entry is labelled, sent, placed, received and safe, but joins no order, so that none is confirmed.
+unfoldable pub aloneCalls : List Words
+aloneCalls =
+    wordsOf 1 1 700 0
+    ∷ wordsOf 2 1 0 0
+    ∷ wordsOf 3 1 0 0
+    ∷ wordsOf 7 1 1 0
+    ∷ wordsOf 8 1 0 0
+    ∷ wordsOf 9 1 0 0
+    ∷ wordsOf 10 1 0 0
+    ∷ []
+
+-- then view 2 is formed, in which the others join
+unfoldable pub joinCalls : List Words
+joinCalls = aloneCalls ++ (wordsOf 5 0 2 7 ∷ [])
+
+-- the answers while recorder 1 is alone; a settle of view 2 takes 33 steps; then each recorder has delivered one entry
+unfoldable pub joinCard : Card
+joinCard =
+    let o = builtInOpening 3 0 in
+    let h = runCalls hl3 (opened o) (map action joinCalls ++ (settling ∷ [])) in
+    record {
+      given = numbersOf o aloneCalls ++ (settleNumbers o joinCalls ++ map (h .recorders .report) (1 ∷ 2 ∷ 3 ∷ []));
+      wanted = 0 ∷ 0 ∷ 0 ∷ 0 ∷ 0 ∷ 0 ∷ 38 ∷ 0 ∷ 33 ∷ 2 ∷ 2 ∷ 2 ∷ [];
+    }
+
 unfoldable pub cards : List Card
 cards =
     listingCard
@@ -326,4 +354,5 @@ cards =
     ∷ orderCard
     ∷ safeCard
     ∷ settleCard
+    ∷ joinCard
     ∷ []

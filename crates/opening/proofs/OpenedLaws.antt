@@ -1,30 +1,28 @@
 -- Laws of specs/Opened. Assumes nothing.
-use Prim.Native.Nat.{ℕ, zero, suc, _+_, _-_, _*_, _^_, _≤_, _<_}
+use Prim.Native.Nat.{ℕ, suc, _+_, _-_, _*_, _^_, _≤_, _<_}
 use native.Mathlib.Omega.{arith}
 use native.Mathlib.Numerals.{add-one}
 use mathlib.Core.Path.{_≡_, refl, sym, ap, ap₂, _∙_}
 use mathlib.Core.Bool.{Bool, true, false, _&&_, _||_, or-false}
 use mathlib.Core.List.{List, [], _∷_, _++_, map, append-assoc, append-nil}
-use lib.Dec.{eqb}
-use borrow.Author.Tests.{eqb-false, ne-eqb, ltb-false}
+use borrow.Author.Tests.{ne-eqb, ltb-false}
 use lib.ListN.{length, getD, take, drop, length-append, length-map, length-replicate, replicate-append-replicate}
-use lib.Pow.{pow-mono}
 use lib.Seq.{sets, sets-eq, length-sets, take-suc, length-take-le}
 use Rattle.base.specs.Update.{upd}
 use Rattle.base.specs.Numbers.{numbers, upTo}
 use Rattle.base.specs.Lists.{filter, has, rising}
-use Rattle.base.proofs.NumbersLaws.{length-numbers, upTo-numbers, upTo-range, rising-upTo}
+use Rattle.base.proofs.NumbersLaws.{length-numbers, upTo-numbers}
 use Rattle.base.proofs.ListsLaws.{has-there, has-append, has-filter, has-none}
 use Rattle.base.proofs.UpdateLaws.{upd-same, upd-ext}
 use Rattle.base.proofs.ChainsLaws.{chain-none, not-refused}
-use Rattle.quorum.specs.Sets.{inMask, members, mask}
+use Rattle.quorum.specs.Sets.{inMask, members}
 use Rattle.quorum.specs.Votes.{rowOf}
 use Rattle.quorum.proofs.VoteLaws.{Right, row-listed}
-use Rattle.quorum.proofs.SetLaws.{has-members, members-range, members-nonempty, rising-members, mask-append}
+use Rattle.quorum.proofs.SetLaws.{has-members, members-range, members-nonempty, rising-members}
 use Rattle.model.specs.Hall.{maxEntries, maxSequence, maxBuffer, maxOrder, maxViews, maxNumber, maxRecorders, Queued, normal, Hall}
 use Rattle.model.specs.Fields.{setService, setHigh}
 use Rattle.model.specs.Service.{createview}
-use Rattle.model.specs.Opening.{Opening, openRefusal, founderSet, noEntries, noSummaries, firstView, openService, openRecorders, openHall, opened}
+use Rattle.model.specs.Opening.{Opening, openRefusal, founderMask, founderSet, noEntries, noSummaries, firstView, openService, openRecorders, openHall, opened}
 use Rattle.codec.specs.Bytes.{zeros}
 use Rattle.codec.specs.Form.{Form, mapped, renamed, guarded}
 use Rattle.codec.specs.Number.{digits, number, byte, flag}
@@ -45,7 +43,6 @@ use Rattle.store.specs.ViewForm.{viewForm, viewList, viewsForm}
 use Rattle.store.specs.HallForm.{entriesForm, recordersForm, rowForm, networkForm, queuesForm, votesForm, bodyForm, afterSize, fields, fromHall, viewsOf, hallFields, hallForm}
 use Rattle.store.specs.StoredForm.{stored}
 use Rattle.store.proofs.CellFormsLaws.{recorder-lawful}
-use Rattle.store.proofs.MasksLaws.{members-mask}
 use Rattle.store.proofs.HallFormLaws.{hallFields-lawful}
 use Rattle.store.proofs.Ranges.{recorder-ok}
 use Rattle.store.proofs.HallOk.{fields-ok}
@@ -56,44 +53,11 @@ use Rattle.store.proofs.Growth.{form-bytes}
 use Rattle.store.proofs.KeepFacts.{Between}
 use Rattle.store.proofs.KeepEntries.{not-empty}
 use Rattle.store.proofs.KeepRules.{valid-of}
-use Rattle.store.proofs.KeepValid.{start-facts, first-views, open-facts, opening-in, opening-taken}
+use Rattle.store.proofs.KeepValid.{start-facts, first-views, open-facts, opening-in, founder-mask-in, opening-taken}
 use Rattle.store.proofs.ViewFormLaws.{view-bytes}
 use Rattle.calls.specs.Calls.{openNumber}
 use Rattle.hall.proofs.Writes.{write-piece}
-use Rattle.opening.specs.Opened.{founderMask, hallWith, begun, startOf, voteBytes, Taken}
-
--- ## The founders' mask
-
-all-mask : (n : ℕ) → mask (upTo n) + 1 ≡ 2 ^ n
-unfolding upTo mask
-all-mask zero = refl
-all-mask (suc n) =
-    let e : suc n - 1 ≡ n = omega arith in
-    omega (arith, mask-append (upTo n) (suc n ∷ []), all-mask n, ap (λ (k : ℕ). 2 ^ k) e)
-
-pub founder-set : (o : Opening) → founderSet o ≡ members (o .size) (founderMask (o .size) (o .founders))
-unfolding founderSet founderMask
-founder-set o = go (eqb (o .founders) 0)
-  where
-    n : ℕ
-    n = o .size
-
-    go : (t : Bool) → _≡_ {A = List ℕ} (elim t [ true ↦ upTo n | false ↦ members n (o .founders) ])
-        (members n (elim t [ true ↦ 2 ^ n - 1 | false ↦ o .founders ]))
-    go true =
-        let e : mask (upTo n) ≡ 2 ^ n - 1 = omega (arith, all-mask n) in
-        sym (members-mask n (upTo n) (rising-upTo n, upTo-range n)) ∙ ap (members n) e
-    go false = refl
-
-pub founder-mask-in : (o : Opening) → 1 ≤ o .size → o .founders < 2 ^ o .size
-    → (1 ≤ founderMask (o .size) (o .founders)) × (founderMask (o .size) (o .founders) < 2 ^ o .size)
-unfolding founderMask
-founder-mask-in o low high = go (eqb (o .founders) 0) refl
-  where
-    go : (t : Bool) → eqb (o .founders) 0 ≡ t
-        → (1 ≤ elim t [ true ↦ 2 ^ o .size - 1 | false ↦ o .founders ]) × (elim t [ true ↦ 2 ^ o .size - 1 | false ↦ o .founders ] < 2 ^ o .size)
-    go true e = omega (arith, pow-mono low)
-    go false e = omega (arith, eqb-false (o .founders) 0 e)
+use Rattle.opening.specs.Opened.{hallWith, begun, startOf, voteBytes, Taken}
 
 -- ## Halls on the way
 
@@ -101,9 +65,9 @@ founder-mask-in o low high = go (eqb (o .founders) 0) refl
 unfoldable pub blankHall : ℕ → List ℕ → Hall
 blankHall n row = hallWith n (rowOf row) [] (λ g. []) []
 
-pub begun-opened : (o : Opening) → begun (o .size) (o .row) (founderMask (o .size) (o .founders)) (o .size) ≡ opened o
-unfolding begun hallWith opened openHall openService
-begun-opened o = ap (openHall (o .size) (rowOf (o .row))) (sym (founder-set o))
+pub begun-opened : (o : Opening) → begun (o .size) (o .row) (founderMask (o .founders)) (o .size) ≡ opened o
+unfolding begun hallWith opened founderSet openHall openService
+begun-opened o = refl
 
 pub begun-none : (n : ℕ) (row : List ℕ) (m : ℕ)
     → setService (createview 1 (members n m) (blankHall n row .service)) (blankHall n row) ≡ begun n row m 0
@@ -375,10 +339,8 @@ module _ (n : ℕ) (row : List ℕ) (m : ℕ) (size : Between 1 maxRecorders n) 
 
 module _ (b : List ℕ) (o : Opening) where
   -- an opening that is not refused
-  pub taken : openNumber b o ≡ 0 → Taken (o .size) (o .row) (founderMask (o .size) (o .founders)) b
+  pub taken : openNumber b o ≡ 0 → Taken (o .size) (o .row) (founderMask (o .founders)) b
   unfolding openNumber
   taken z =
       let both = chain-none (openRefusal o) _ z in
-      let i = opening-in o (both .0) in
-      let m = founder-mask-in o (i .0 .0) (i .1) in
-      record { size = i .0; votes = opening-taken o (both .0); founders = m; long = ltb-false (length b) storedLength (not-refused _ _ (both .1)) }
+      record { size = opening-in o (both .0) .0; votes = opening-taken o (both .0); founders = founder-mask-in o (both .0); long = ltb-false (length b) storedLength (not-refused _ _ (both .1)) }

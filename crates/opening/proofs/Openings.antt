@@ -10,12 +10,12 @@ use Rattle.base.specs.Chains.{refuse, _⨾_}
 use Rattle.quorum.specs.Sets.{inMask, members}
 use Rattle.quorum.proofs.SetLaws.{has-members}
 use Rattle.model.specs.Hall.{Hall}
-use Rattle.model.specs.Opening.{openingOf, openRefusal, opened}
+use Rattle.model.specs.Opening.{openingOf, openRefusal, founderMask, opened}
 use Rattle.store.specs.Layout.{storedLength}
 use Rattle.store.specs.StoredForm.{stored}
 use Rattle.calls.specs.Calls.{withHall, openNumber, openOn}
 use Rattle.calls.proofs.OpenLaws.{open-refused, open-taken}
-use Rattle.opening.specs.Opened.{founderMask, begun, Taken}
+use Rattle.opening.specs.Opened.{begun, Taken}
 use Rattle.opening.proofs.OpenedLaws.{begun-opened, taken}
 
 -- the mask says whether recorder k + 1 is a founder
@@ -36,7 +36,7 @@ module _ (b : List ℕ) (n founders : ℕ) (row : List ℕ) (wrong short why : �
       let r = open-refused b (openingOf n founders row) (λ z. ne (in-turn ∙ z)) in
       (in-turn ∙ sym (r .0), sym (r .1))
 
-  module _ (z : why ≡ 0) (m : ℕ) (h : m ≡ founderMask n founders) where
+  module _ (z : why ≡ 0) (m : ℕ) (h : m ≡ founderMask founders) where
     pub allowed : Taken n row m b
     allowed = rw h (taken b (openingOf n founders row) (sym in-turn ∙ z))
 

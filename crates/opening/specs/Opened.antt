@@ -1,10 +1,9 @@
 -- The bytes of an opened hall as a sequence of writes: a blank hall with its votes, view 1 formed in it, then one recorder after
 -- another. Assumes nothing.
-use Prim.Native.Nat.{ℕ, _-_, _^_, _≤_, _<_}
+use Prim.Native.Nat.{ℕ, _^_, _≤_, _<_}
 use mathlib.Core.Path.{_≡_}
-use mathlib.Core.Bool.{true, false}
+use mathlib.Core.Bool.{false}
 use mathlib.Core.List.{List, [], _∷_, _++_}
-use lib.Dec.{eqb}
 use lib.ListN.{length}
 use lib.Seq.{sets}
 use Rattle.base.specs.Update.{upd}
@@ -16,12 +15,6 @@ use Rattle.model.specs.Opening.{firstView, openService, openRecorders, openHall
 use Rattle.codec.specs.Number.{digits}
 use Rattle.store.specs.Layout.{wordSize, storedLength}
 use Rattle.store.specs.Cells.{RecorderCell, recorderAt}
-
--- ## The founders' mask
-
--- "A founders word of 0 means all recorders."
-unfoldable pub founderMask : ℕ → ℕ → ℕ
-founderMask n founders = elim (eqb founders 0) [ true ↦ 2 ^ n - 1 | false ↦ founders ]
 
 -- ## Halls on the way
 

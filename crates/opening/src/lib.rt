@@ -1,17 +1,17 @@
-// Opening a hall on lent bytes (document 01, "Votes and views" and "A hall's fields"; 02, A4; refusals 16, 41 and 18).
+// Opening a hall on lent bytes (document 01, "Votes and views" and "A hall's fields"; 02, A4 and A8; refusals 16, 41 and 18).
 
 ghost use mathlib.Core.Path.{_≡_};
 ghost use mathlib.Core.List.{List, _++_};
 ghost use Prim.Native.Nat.{ℕ, _+_, _-_, _*_, _≤_, _<_};
 ghost use lib.ListN.{length, drop};
 ghost use lib.Seq.{sets};
-ghost use Rattle.model.specs.Opening.{openingOf};
+ghost use Rattle.model.specs.Opening.{openingOf, founderMask};
 ghost use Rattle.model.specs.Hall.{maxRecorders};
 ghost use Rattle.store.specs.Layout.{storedLength, recordersAt, recorderSize, votesAt};
 ghost use Rattle.store.specs.CellForms.{recorderForm};
 ghost use Rattle.store.specs.StoredForm.{stored};
 ghost use Rattle.calls.specs.Calls.{openOn};
-ghost use Rattle.opening.specs.Opened.{Taken, founderMask, begun, startOf, voteBytes};
+ghost use Rattle.opening.specs.Opened.{Taken, begun, startOf, voteBytes};
 use codec::clear;
 use codec::put_byte;
 use codec::put_u32;
@@ -19,19 +19,17 @@ use model::limits::MAX_RECORDERS;
 use model::refusals;
 use pieces::Recorder;
 use pieces::put_recorder;
-use quorum::all_of;
 use quorum::in_mask;
 use store::layout;
 use words::first;
 use words::opening_refusal;
 use words::refusal;
 
-// "A founders word of 0 means all recorders."
-fn founder_mask(n: u32, founders: u32) -> u32
-    requires { ⌜ n ≤ maxRecorders ⌝ }
-    ensures { λ r. ⌜ r ≡ founderMask n founders ⌝ }
+// "A founders word of 0 shall mean recorder 1 only."
+fn founder_mask(founders: u32) -> u32
+    ensures { λ r. ⌜ r ≡ founderMask founders ⌝ }
 {
-    if founders == 0 { all_of(n) } else { founders }
+    if founders == 0 { 1 } else { founders }
 }
 
 // The votes of the eight recorders.
@@ -98,7 +96,7 @@ pub fn open(b: &mut [u8], n: u32, founders: u32, votes: [u32; 8]) -> u32
     if why != 0 {
         return why;
     }
-    let set = founder_mask(n, founders);
+    let set = founder_mask(founders);
     begin(b, n, set, votes);
     start_all(b, n, set);
     0

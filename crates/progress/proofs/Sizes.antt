@@ -3,13 +3,10 @@
 use Prim.Native.Nat.{ℕ, _≤_}
 use native.Mathlib.Omega.{arith}
 use mathlib.Core.Path.{_≡_}
-use mathlib.Core.Bool.{Bool, true, false}
+use mathlib.Core.Bool.{true}
 use mathlib.Core.List.{List, []}
-use lib.Dec.{eqb}
 use Rattle.base.specs.Lists.{has}
-use Rattle.base.specs.Numbers.{upTo}
 use Rattle.base.proofs.ListsLaws.{has-none}
-use Rattle.base.proofs.NumbersLaws.{upTo-range}
 use Rattle.base.proofs.UpdateLaws.{upd-at}
 use Rattle.quorum.specs.Sets.{members}
 use Rattle.quorum.proofs.SetLaws.{members-range}
@@ -18,7 +15,7 @@ use Rattle.model.specs.Service.{createview, newview, gpsnd, vsOrder, gprcv, saf
 use Rattle.model.specs.Ordering.{labelEntry}
 use Rattle.model.specs.Refusals.{Rules}
 use Rattle.model.specs.Actions.{doSubmit, doForm}
-use Rattle.model.specs.Opening.{Opening, openRefusal, openHall, openService, noEntries, opened, founderSet}
+use Rattle.model.specs.Opening.{Opening, openRefusal, openHall, openService, noEntries, opened, founderMask, founderSet}
 use Rattle.model.proofs.Accepting.Moves.{Move, submits, labels, sendsEntry, sendsSummary, forms, enters, places, receives, receivesPrimary, hears, hearsLast, notices, noticesPrimary, noticesSummary, noticesLast, confirms, delivers}
 use Rattle.store.proofs.KeepValid.{opening-in}
 
@@ -36,12 +33,7 @@ SizesOf h = Sizes (h .entries .count) (h .size) (h .service .members)
 
 founders-in : (o : Opening) (p : ℕ) → has (founderSet o) p ≡ true → (1 ≤ p) × (p ≤ o .size)
 unfolding founderSet
-founders-in o p = go (eqb (o .founders) 0)
-  where
-    go : (t : Bool) → has (elim t [ true ↦ upTo (o .size) | false ↦ members (o .size) (o .founders) ]) p ≡ true
-        → (1 ≤ p) × (p ≤ o .size)
-    go true = upTo-range (o .size) p
-    go false = members-range (o .size) (o .founders) p
+founders-in o = members-range (o .size) (founderMask (o .founders))
 
 pub sizes-opened : (o : Opening) → openRefusal o ≡ 0 → SizesOf (opened o)
 unfolding opened openHall openService noEntries

@@ -9,9 +9,9 @@ use crate::pair::{random_room, Difference, Pair};
 use crate::random::Random;
 use crate::rows::{self, EDGES};
 use reference::calls::ANSWER_LENGTH;
-use reference::hall::{built_in_votes, MOST_VOTES};
+use reference::hall::{all_recorders, built_in_votes, MOST_VOTES};
 use reference::stored::LENGTH;
-use reference::{open, open_built_in, stored, Hall, Votes};
+use reference::{open, open_whole, stored, Hall, Votes};
 
 /// Damaged bytes that are a hall, and bytes that are none.
 pub const STILL_A_HALL: &str = "damaged: still a hall";
@@ -31,7 +31,7 @@ fn sound_hall(random: &mut Random) -> Hall {
     }
     let n = random.between(1, 8);
     let votes = rows::passing(random, n);
-    let mut hall = open(n, 0, votes).expect("the opening is taken");
+    let mut hall = open(n, all_recorders(n), votes).expect("the opening is taken");
     let weights = actions::Weights::random(random);
     for _ in 0..random.between(0, 2_000) {
         let [k, r, a, b] = actions::action(random, &hall, &weights);
@@ -254,7 +254,7 @@ fn votes_changed(
 /// edges at each place, in a row of 0 and in one of the most votes; all 0.
 pub fn votes(_: u64, counts: &mut Counts) -> Result<(), Difference> {
     for n in 1..=8 {
-        let hall = open_built_in(n, 0).expect("the opening is taken");
+        let hall = open_whole(n);
         let form = stored::form(&hall);
         let mut pair = Pair::of_hall(hall, &[]);
         for (at, byte) in (0..32).flat_map(|at| (0..=255).map(move |byte| (at, byte))) {

@@ -7,7 +7,7 @@ use crate::pair::{Difference, Pair};
 use crate::random::Random;
 use crate::rows::{different, equal, with_vote};
 use reference::calls::ANSWER_LENGTH;
-use reference::hall::{MOST_RECORDERS, MOST_VOTES};
+use reference::hall::{all_recorders, MOST_RECORDERS, MOST_VOTES};
 use reference::stored::LENGTH;
 use reference::{open, Votes};
 use std::collections::BTreeSet;
@@ -124,7 +124,8 @@ fn page_margins(
 /// A hall where no recorder has a view. No run reaches it, and a hall of one has
 /// the margin of the empty set in no other.
 fn without_views(size: Size) -> Pair {
-    let mut hall = open(size.n, 0, size.row).expect("the opening is taken");
+    let founders = all_recorders(size.n);
+    let mut hall = open(size.n, founders, size.row).expect("the opening is taken");
     for recorder in &mut hall.recorders {
         recorder.current = 0;
     }

@@ -12,6 +12,7 @@ use crate::random::Random;
 use crate::rows;
 use crate::runs::{lend, opening};
 use reference::calls::ANSWER_LENGTH;
+use reference::hall::all_recorders;
 use reference::kept::Kept;
 use reference::stored::{self, LENGTH as HALL};
 use reference::undo::{Part, Slot, Undo, LENGTH, MOST_HELD};
@@ -237,7 +238,7 @@ fn foreign_write(
         0 => {
             let n = random.between(1, 8);
             let votes = rows::passing(random, n);
-            pair.open(n, 0, votes, counts)?;
+            pair.open(n, all_recorders(n), votes, counts)?;
         }
         1 | 2 => pair.change(|area| area[..HALL].copy_from_slice(old)),
         3 => return Ok(pair.settle(ANSWER_LENGTH, counts)?.0 == 0),
@@ -501,7 +502,7 @@ pub fn other_halls(seed: u64, counts: &mut Counts) -> Result<(), Difference> {
 fn reached(random: &mut Random) -> (Hall, Undo) {
     let n = random.between(1, 8);
     let votes = rows::passing(random, n);
-    let mut hall = open(n, 0, votes).expect("the opening is taken");
+    let mut hall = open(n, all_recorders(n), votes).expect("the opening is taken");
     let before = random.below(60);
     history(random, &mut hall, before);
     let count = 1 + random.below(MOST_HELD);

@@ -41,8 +41,8 @@ pub mod undo;
 
 pub use actions::Answer;
 pub use hall::{
-    built_in_votes, open, open_built_in, Entry, Hall, Label, Message, Phase, Queued, Recorder,
-    Seat, Summary, View, Votes,
+    built_in_votes, open, open_built_in, open_whole, Entry, Hall, Label, Message, Phase, Queued,
+    Recorder, Seat, Summary, View, Votes,
 };
 pub use listing::listing;
 pub use page::Page;

@@ -1,7 +1,8 @@
 //! The bench cards, and a few more short runs from an opening.
 
 use reference::{
-    built_in_votes, listing, open_built_in, read_run_file, write_run_file, Answer, Hall, Opening,
+    built_in_votes, listing, open_built_in, open_whole, read_run_file, write_run_file, Answer,
+    Hall, Opening,
 };
 
 const DONE: Answer = Answer::Done;
@@ -57,7 +58,7 @@ fn openings() {
     assert_eq!(open_built_in(8, 1 << 31), Err(16));
     assert!(open_built_in(8, 0).is_ok_and(|hall| hall.check()));
     let hall = open_built_in(3, 0).unwrap();
-    assert_eq!((hall.views[0].number, hall.views[0].members), (1, 7));
+    assert_eq!((hall.views[0].number, hall.views[0].members), (1, 1));
     let hall = open_built_in(3, 2).unwrap();
     assert_eq!((hall.recorder(1).current, hall.recorder(1).high), (0, 0));
     assert_eq!((hall.recorder(2).current, hall.recorder(2).high), (1, 1));
@@ -85,7 +86,7 @@ fn margins() {
 
 #[test]
 fn view_numbers() {
-    let mut hall = open_built_in(2, 0).unwrap();
+    let mut hall = open_whole(2);
     assert_eq!(hall.step(5, 0, 0, 1), refused(14));
     assert_eq!(hall.step(5, 0, 2, 3), DONE);
     assert_eq!(hall.step(5, 0, 3, 3), DONE);
@@ -110,7 +111,7 @@ fn view_numbers() {
 #[test]
 fn the_last_view_number() {
     let last = u32::MAX;
-    let mut hall = open_built_in(1, 0).unwrap();
+    let mut hall = open_whole(1);
     assert_eq!(hall.step(5, 0, last, 1), DONE);
     let exchange = [(6, last), (4, 0), (7, last), (8, 0)];
     assert!(all_accepted(&steps_at_1(&mut hall, &exchange)));
@@ -138,7 +139,7 @@ fn the_last_view_number() {
 
 #[test]
 fn labels_wait_for_the_summaries() {
-    let mut hall = open_built_in(1, 0).unwrap();
+    let mut hall = open_whole(1);
     assert_eq!(hall.step(5, 0, 2, 1), DONE);
     assert!(all_accepted(&steps_at_1(&mut hall, &[(6, 2), (1, 5)])));
     assert_eq!(hall.step(2, 1, 0, 0), refused(37));
@@ -151,7 +152,7 @@ fn labels_wait_for_the_summaries() {
 
 #[test]
 fn order_of_refusals() {
-    let mut hall = open_built_in(2, 0).unwrap();
+    let mut hall = open_whole(2);
     assert_eq!(hall.step(12, 9, 9, 9), refused(11));
     assert_eq!(hall.step(0, 1, 0, 0), refused(11));
     assert_eq!(hall.step(6, 9, 0, 0), refused(12));
@@ -166,7 +167,7 @@ fn order_of_refusals() {
 
 #[test]
 fn safe_needs_all_members() {
-    let mut hall = open_built_in(2, 0).unwrap();
+    let mut hall = open_whole(2);
     assert!(all_accepted(&steps_at_1(
         &mut hall,
         &[(1, 5), (2, 0), (3, 0), (7, 1), (8, 0)]
@@ -179,7 +180,7 @@ fn safe_needs_all_members() {
 
 #[test]
 fn limits_of_entries_and_views() {
-    let mut hall = open_built_in(1, 0).unwrap();
+    let mut hall = open_whole(1);
     for value in 0..64 {
         assert_eq!(hall.step(1, 1, value, 0), DONE);
     }
@@ -196,7 +197,7 @@ fn limits_of_entries_and_views() {
 /// summaries there are.
 #[test]
 fn safe_labels_end_with_the_view() {
-    let mut hall = open_built_in(1, 0).unwrap();
+    let mut hall = open_whole(1);
     let entry = [(1, 5), (2, 0), (3, 0), (7, 1), (8, 0), (9, 0)];
     assert!(all_accepted(&steps_at_1(&mut hall, &entry)));
     assert_eq!(hall.step(5, 0, 2, 1), DONE);
@@ -216,7 +217,7 @@ fn safe_labels_end_with_the_view() {
 /// A summary is shown as sent, also when its source has moved on.
 #[test]
 fn summaries_are_shown_as_sent() {
-    let mut hall = open_built_in(2, 0).unwrap();
+    let mut hall = open_whole(2);
     assert_eq!(hall.step(5, 0, 2, 3), DONE);
     assert!(all_accepted(&steps_at_1(
         &mut hall,
@@ -239,7 +240,7 @@ fn summaries_are_shown_as_sent() {
 /// of the one with the lower number.
 #[test]
 fn the_longest_order_represents() {
-    let mut hall = open_built_in(3, 7).unwrap();
+    let mut hall = open_whole(3);
     // An entry of view 1 that 2 alone has received.
     let at_2 = [[1, 2, 700, 0], [2, 2, 0, 0], [3, 2, 0, 0], [7, 2, 1, 0]];
     assert!(all_accepted(&steps(&mut hall, &at_2)));
@@ -309,6 +310,35 @@ fn the_page_of_a_founder_without_a_quorum() {
     let page = open_built_in(3, 1).unwrap().page(1, 0).unwrap();
     assert_eq!((page.view, page.members), (1, 1));
     assert_eq!((page.margin, page.high), (0, 1));
+}
+
+/// Founders 0 are recorder 1. Of three it is no quorum: what it submits joins no
+/// order until the others join by a view.
+#[test]
+fn new_halls_start_small() {
+    for n in 1..=8 {
+        assert_eq!(open_built_in(n, 0), open_built_in(n, 1));
+    }
+    let mut hall = open_built_in(3, 0).unwrap();
+    let group = |hall: &Hall, r: u32| {
+        let page = hall.page(r, 0).unwrap();
+        (page.view, page.members, page.margin, page.high)
+    };
+    assert_eq!(group(&hall, 1), (1, 1, 0, 1));
+    assert_eq!(group(&hall, 2), (0, 0, -4, 0));
+    let entry = [(1, 700), (2, 0), (3, 0), (7, 1), (8, 0), (9, 0)];
+    assert!(all_accepted(&steps_at_1(&mut hall, &entry)));
+    assert_eq!(hall.step(10, 1, 0, 0), refused(38));
+    assert_eq!(hall.step(8, 2, 0, 0), refused(37));
+    assert_eq!(hall.settle(), Err(42));
+    assert_eq!(hall.step(5, 0, 2, 0b111), DONE);
+    assert_eq!(hall.settle().map(|steps| steps.len()), Ok(33));
+    for r in 1..=3 {
+        assert_eq!(group(&hall, r), (2, 0b111, 4, 2));
+        let page = hall.page(r, 1).unwrap();
+        let label = (page.label_view, page.label_seq, page.label_sender);
+        assert_eq!((label, page.value, page.report), ((1, 1, 1), 700, 2));
+    }
 }
 
 #[test]

@@ -4,7 +4,7 @@ mod halls;
 
 use halls::{full_hall, labelled, queued, summary};
 use reference::{
-    built_in_votes, open_built_in, Answer, Hall, Message, Phase, Recorder, Seat, Summary, View,
+    built_in_votes, open_whole, Answer, Hall, Message, Phase, Recorder, Seat, Summary, View,
 };
 
 const DONE: Answer = Answer::Done;
@@ -363,7 +363,7 @@ fn a_notice_asks_members_only() {
 
 #[test]
 fn labelling_that_is_full() {
-    let mut hall = open_built_in(1, 0).unwrap();
+    let mut hall = open_whole(1);
     hall.recorder_mut(1).next_seq = 65;
     assert_refused(&mut hall, 2, 1, 0, 38);
     hall.entries = vec![labelled(1, 7, 1)];
@@ -382,7 +382,7 @@ fn labelling_that_is_full() {
 /// The first waiting entry is labelled, also where a later one has a label.
 #[test]
 fn a_labelled_entry_after_a_waiting_one() {
-    let mut hall = open_built_in(2, 0).unwrap();
+    let mut hall = open_whole(2);
     assert_eq!(hall.step(1, 2, 5, 0), DONE);
     assert_eq!(hall.step(1, 1, 6, 0), DONE);
     hall.entries.push(labelled(9, 9, 1));
@@ -446,7 +446,7 @@ fn marks_in_any_relation() {
 
 #[test]
 fn a_hall_without_views() {
-    let mut hall = open_built_in(2, 0).unwrap();
+    let mut hall = open_whole(2);
     hall.views.clear();
     hall.recorders = vec![Recorder::starting(0); 2];
     hall.recorder_mut(1).phase = Phase::Send;

@@ -8,7 +8,7 @@ use reference::calls::{self, ANSWER_LENGTH};
 use reference::hall::Hall;
 use reference::kept::Kept;
 use reference::undo::{Part, Slot, Undo, LENGTH, MOST_HELD};
-use reference::{open, open_built_in, read_run_file, stored, Answer};
+use reference::{open, open_whole, read_run_file, stored, Answer};
 use std::collections::{BTreeMap, BTreeSet};
 use std::fs;
 use std::path::Path;
@@ -103,7 +103,7 @@ fn the_lengths_are_those_of_the_document() {
 /// The first slot of a submit, byte by byte.
 #[test]
 fn a_slot_by_hand() {
-    let mut bench = Bench::new(&open_built_in(3, 0).unwrap());
+    let mut bench = Bench::new(&open_whole(3));
     assert_eq!(bench.step([1, 2, 0x0403_0201, 0]), 0);
     let mut wanted = vec![0; LENGTH];
     wanted[0] = 1;
@@ -144,7 +144,7 @@ const BY_KIND: [(Call, [(usize, usize); 2]); 14] = [
 
 #[test]
 fn parts_by_kind() {
-    let mut bench = Bench::new(&open_built_in(3, 0).unwrap());
+    let mut bench = Bench::new(&open_whole(3));
     for (call, places) in BY_KIND {
         let before = bench.hall.clone();
         assert_eq!(bench.step(call), 0, "{call:?}");
@@ -209,7 +209,7 @@ fn submits(bench: &mut Bench, values: impl IntoIterator<Item = u32>) {
 
 #[test]
 fn sixteen_and_seventeen() {
-    let mut bench = Bench::new(&open_built_in(3, 0).unwrap());
+    let mut bench = Bench::new(&open_whole(3));
     let mut shown = vec![bench.clone()];
     for value in 1..=17 {
         submits(&mut bench, [value]);
@@ -237,7 +237,7 @@ fn sixteen_and_seventeen() {
 
 #[test]
 fn one_after_the_sixteenth_and_one_back() {
-    let mut bench = Bench::new(&open_built_in(3, 0).unwrap());
+    let mut bench = Bench::new(&open_whole(3));
     submits(&mut bench, 1..=17);
     assert_eq!(bench.back(), 0);
     let held = bench.held().slots;
@@ -247,7 +247,7 @@ fn one_after_the_sixteenth_and_one_back() {
 
 #[test]
 fn refused_actions_leave_no_trace() {
-    let mut bench = Bench::new(&open_built_in(3, 0).unwrap());
+    let mut bench = Bench::new(&open_whole(3));
     submits(&mut bench, [5]);
     let kept = bench.clone();
     for call in [[2, 2, 0, 0], [1, 4, 0, 0], [12, 0, 0, 0], [5, 0, 1, 1]] {
@@ -261,7 +261,7 @@ fn refused_actions_leave_no_trace() {
 /// A settle of seven steps is seven actions.
 #[test]
 fn back_into_a_settle() {
-    let mut bench = Bench::new(&open_built_in(1, 0).unwrap());
+    let mut bench = Bench::new(&open_whole(1));
     assert_eq!(bench.settle(), (0, 0));
     assert_eq!(bench.undo[..LENGTH], [0; LENGTH]);
     submits(&mut bench, [5]);
@@ -287,7 +287,7 @@ fn back_into_a_settle() {
 
 #[test]
 fn a_long_settle_leaves_its_last_sixteen() {
-    let mut bench = Bench::new(&open_built_in(3, 0).unwrap());
+    let mut bench = Bench::new(&open_whole(3));
     for r in 1..=3 {
         assert_eq!(bench.step([1, r, 0, 0]), 0);
     }
@@ -346,7 +346,7 @@ struct Met {
 fn lent_throughout(seed: u64, met: &mut Met) {
     let mut random = Random(seed);
     let n = random.between(1, 8);
-    let mut kept = Kept::new(open_built_in(n, 0).unwrap());
+    let mut kept = Kept::new(open_whole(n));
     let mut bench = Bench::new(&kept.hall);
     for _ in 0..random.between(100, 400) {
         let before = bench.clone();
@@ -447,7 +447,7 @@ fn somebody_else_writes() {
     for seed in 0..FOREIGN_RUNS {
         let mut random = Random(seed);
         let n = random.between(1, 4);
-        let mut bench = Bench::new(&open_built_in(n, 0).unwrap());
+        let mut bench = Bench::new(&open_whole(n));
         let mut old = bench.hall.clone();
         for place in 0..400 {
             let action = action(&mut random, &bench.hall());
@@ -477,7 +477,7 @@ fn somebody_else_writes() {
 
 /// A buffer with two slots: of a submit and of its label.
 fn two_slots() -> Vec<u8> {
-    let mut bench = Bench::new(&open_built_in(3, 0).unwrap());
+    let mut bench = Bench::new(&open_whole(3));
     assert_eq!(bench.step([1, 2, 5, 0]), 0);
     assert_eq!(bench.step([2, 2, 0, 0]), 0);
     bench.undo[..LENGTH].to_vec()
@@ -533,7 +533,7 @@ fn buffers_that_are_not_in_form() {
 /// Each number before the next, all bytes kept.
 #[test]
 fn the_order_of_refusals() {
-    let hall = open_built_in(3, 0).unwrap();
+    let hall = open_whole(3);
     let mut sound = Bench::new(&hall);
     submits(&mut sound, [5]);
     let mut no_buffer = sound.clone();

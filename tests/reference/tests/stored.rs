@@ -1,6 +1,8 @@
 //! The stored form reads back, and the three calls on bytes are those of a hall.
 
-use reference::{built_in_votes, calls, open, open_built_in, read_run_file, stored, Hall};
+use reference::{
+    built_in_votes, calls, open, open_built_in, open_whole, read_run_file, stored, Hall,
+};
 use std::fs;
 use std::path::Path;
 
@@ -71,7 +73,7 @@ fn a_form_is_the_only_one() {
 /// entered, of a label, of a recorder's highest primary and of a summary's.
 #[test]
 fn numbers_of_four_bytes() {
-    let mut hall = open_built_in(1, 0).unwrap();
+    let mut hall = open_whole(1);
     hall.step(1, 1, 5, 0);
     hall.step(2, 1, 0, 0);
     hall.step(5, 0, 2, 1);

@@ -1,9 +1,10 @@
 -- `opening::open` meets its contract. Assumes nothing.
 use denote.Ref.{now}
 use Prim.Native.Nat.{ℕ}
-use mathlib.Core.Path.{_≡_, refl}
+use mathlib.Core.Path.{_≡_}
 use borrow.Author.Needs.{needs}
-use Rattle.opening.specs.Opened.{founderMask, Taken}
+use Rattle.model.specs.Opening.{founderMask}
+use Rattle.opening.specs.Opened.{Taken}
 use Rattle.opening.proofs.Openings.{leaves-refused, allowed, leaves-opened}
 use Rattle.opening.proofs.open.Statement.{statement}
 use Rattle.opening.proofs.open.Tie as tie
@@ -21,12 +22,12 @@ returns : tie.Need-returns
 returns c = leaves-refused _ _ _ _ _ _ _ (c .before .before .before .opening-refusal .ensures) (c .before .before .refusal .ensures) (c .before .first .ensures) (c .if1 .taken)
 
 -- none of 16, 41 and 18
-passed : (c : tie.Else1) (m : ℕ) → m ≡ founderMask (c .before .before .before .before .before .args .n) (c .before .before .before .before .before .args .founders)
+passed : (c : tie.Else1) (m : ℕ) → m ≡ founderMask (c .before .before .before .before .before .args .founders)
     → Taken (c .before .before .before .before .before .args .n) (c .before .before .before .before .before .args .votes) m (now (c .before .before .before .before .before .args .b))
 passed c m e = allowed _ _ _ _ _ _ _ (c .before .before .before .opening-refusal .ensures) (c .before .before .refusal .ensures) (c .before .first .ensures) (c .if1 .left) m e
 
 founder-mask-requires : tie.Need-founder-mask-requires
-founder-mask-requires c κs = passed c _ refl .size .1
+founder-mask-requires c κs = search needs
 
 begin-requires : tie.Need-begin-requires
 begin-requires c κs = passed (c .before .before) _ (c .before .founder-mask .ensures)

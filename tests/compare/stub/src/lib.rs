@@ -10,7 +10,7 @@ mod votes;
 
 use reference::actions::judge_kind;
 use reference::calls::{self, ANSWER_LENGTH, WORDS};
-use reference::hall::{at_mark, Message};
+use reference::hall::{all_recorders, at_mark, judge_opening, Message};
 use reference::stored::{self, LENGTH};
 use reference::{Hall, Opening};
 use std::slice::{from_raw_parts, from_raw_parts_mut};
@@ -51,6 +51,12 @@ pub unsafe extern "C" fn hall_open(
     }
     if faulty("founders looked at as a byte") {
         return calls::open(hall, n, founders & 255, row);
+    }
+    if faulty("founders 0 means all") && founders == 0 && judge_opening(n, 0).is_ok() {
+        return calls::open(hall, n, all_recorders(n), row);
+    }
+    if faulty("founders 0 refused") && founders == 0 {
+        return 16;
     }
     let number = votes::open(hall, n, founders, row);
     if faulty("the rest of the slice cleared") && number == 0 {
@@ -241,6 +247,9 @@ pub unsafe extern "C" fn hall_run_read(
     if let Some(wrong) = votes::wrong_read(file, number) {
         return wrong;
     }
+    if faulty("founders 0 read as recorder 1") && number == 0 && words[4] == 0 {
+        words[4] = 1;
+    }
     if faulty("the first byte of the run as its start") && number == 0 {
         words[8] -= 16;
     }
@@ -301,9 +310,10 @@ pub unsafe extern "C" fn hall_run_write(
     let file = from_raw_parts_mut(file, file_len);
     let actions = from_raw_parts(actions, actions_len);
     let words = from_raw_parts_mut(words, words_len);
+    let written_as_1 = faulty("founders 0 written as recorder 1") && founders == 0;
     let opening = Opening {
         n,
-        founders,
+        founders: if written_as_1 { 1 } else { founders },
         third,
         votes: [v1, v2, v3, v4, v5, v6, v7, v8],
     };

@@ -1,7 +1,6 @@
 //! Parts of valid halls that no run reaches.
 
-use reference::hall::all_recorders;
-use reference::{open_built_in, Entry, Hall, Label, Message, Queued, Summary};
+use reference::{open_whole, Entry, Hall, Label, Message, Queued, Summary};
 
 pub fn labelled(view: u32, seq: u32, sender: u32) -> Entry {
     Entry {
@@ -14,7 +13,7 @@ pub fn labelled(view: u32, seq: u32, sender: u32) -> Entry {
 /// An open hall of all recorders, with 64 labelled entries of recorder 1. Later
 /// entries have lower labels.
 pub fn full_hall(n: u32) -> Hall {
-    let mut hall = open_built_in(n, all_recorders(n)).unwrap();
+    let mut hall = open_whole(n);
     hall.entries = (0..64).map(|k| labelled(3, 64 - k, 1)).collect();
     hall
 }
