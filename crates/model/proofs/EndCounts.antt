@@ -15,7 +15,7 @@ use Rattle.model.specs.Call.{Words, hl3, step}
 use Rattle.model.specs.Run.{answers}
 use Rattle.model.specs.RunFile.{FileOpening, openingIn, RunText, Reading, readFile, fileBytes}
 use Rattle.model.specs.Listing.{line, hall-word, decimal, actionLine, endLine, actionLines, runLines, listing}
-use Rattle.model.specs.Cards.{listingRun}
+use Rattle.model.specs.Cards.{upToConfirm, listingRun}
 use Rattle.model.proofs.Computing.{computing}
 use Rattle.model.specs.EndCounts.{acceptedCount, refusedCount, endOf, Closes, InventsEnd, inventedEnd}
 
@@ -70,7 +70,7 @@ last-bytes text last c =
 
 -- `inventedEnd` is one of them: in the listing that 01 prints it ends with 15 and 1
 pub invented-end : InventsEnd inventedEnd
-unfolding computing listingRun inventedEnd acceptedCount refusedCount
+unfolding computing upToConfirm listingRun inventedEnd acceptedCount refusedCount
 invented-end =
     record {
       file = fileBytes listingRun;

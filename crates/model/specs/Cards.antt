@@ -30,22 +30,24 @@ numbersOf o ws = map (λ x. plain x .number) (answers hl3 (opened o) ws)
 unfoldable pub quorumCard : ℕ → ℕ → ℕ
 quorumCard n b = elim (quorum builtIn n (inMask b)) [ true ↦ 1 | false ↦ 0 ]
 
--- "N = 1, founders 1, and actions submit 700, label, send, place in view 1, receive, safe, confirm, deliver, deliver"
+-- "submit 700, label, send, place in view 1, receive, safe, confirm", at recorder 1
+unfoldable pub upToConfirm : List Words
+upToConfirm =
+    wordsOf 1 1 700 0
+    ∷ wordsOf 2 1 0 0
+    ∷ wordsOf 3 1 0 0
+    ∷ wordsOf 7 1 1 0
+    ∷ wordsOf 8 1 0 0
+    ∷ wordsOf 9 1 0 0
+    ∷ wordsOf 10 1 0 0
+    ∷ []
+
+-- "N = 1, founders 1, and actions submit 700, .., confirm, deliver, deliver"
 unfoldable pub listingRun : RunText
 listingRun =
     record {
       opening = record { size = 1; founders = 1; third = 0; words = replicate 8 0 };
-      actions =
-          wordsOf 1 1 700 0
-          ∷ wordsOf 2 1 0 0
-          ∷ wordsOf 3 1 0 0
-          ∷ wordsOf 7 1 1 0
-          ∷ wordsOf 8 1 0 0
-          ∷ wordsOf 9 1 0 0
-          ∷ wordsOf 10 1 0 0
-          ∷ wordsOf 11 1 0 0
-          ∷ wordsOf 11 1 0 0
-          ∷ [];
+      actions = upToConfirm ++ (wordsOf 11 1 0 0 ∷ wordsOf 11 1 0 0 ∷ []);
     }
 
 -- the listing that 01 prints for it
@@ -310,30 +312,19 @@ settleCard =
     }
 
 -- "Commissioning now begins with one recorder, and others join by a view." (02, A8) Recorder 1 of three is alone in view 1,
--- which is not primary: its entry is labelled, sent, placed, received and safe, but joins no order, so that none is confirmed.
-unfoldable pub aloneCalls : List Words
-aloneCalls =
-    wordsOf 1 1 700 0
-    ∷ wordsOf 2 1 0 0
-    ∷ wordsOf 3 1 0 0
-    ∷ wordsOf 7 1 1 0
-    ∷ wordsOf 8 1 0 0
-    ∷ wordsOf 9 1 0 0
-    ∷ wordsOf 10 1 0 0
-    ∷ []
-
--- then view 2 is formed, in which the others join
+-- which is not primary, and takes its entry up to the confirm; then view 2 is formed, in which the others join.
 unfoldable pub joinCalls : List Words
-joinCalls = aloneCalls ++ (wordsOf 5 0 2 7 ∷ [])
+joinCalls = upToConfirm ++ (wordsOf 5 0 2 7 ∷ [])
 
--- the answers while recorder 1 is alone; a settle of view 2 takes 33 steps; then each recorder has delivered one entry
+-- the answers: the entry joined no order, so that there is none to confirm; a settle of view 2 takes 33 steps; then each
+-- recorder has delivered one entry (its report mark is 2)
 unfoldable pub joinCard : Card
 joinCard =
     let o = builtInOpening 3 0 in
     let h = runCalls hl3 (opened o) (map action joinCalls ++ (settling ∷ [])) in
     record {
-      given = numbersOf o aloneCalls ++ (settleNumbers o joinCalls ++ map (h .recorders .report) (1 ∷ 2 ∷ 3 ∷ []));
-      wanted = 0 ∷ 0 ∷ 0 ∷ 0 ∷ 0 ∷ 0 ∷ 38 ∷ 0 ∷ 33 ∷ 2 ∷ 2 ∷ 2 ∷ [];
+      given = numbersOf o joinCalls ++ (settleNumbers o joinCalls ++ map (h .recorders .report) (1 ∷ 2 ∷ 3 ∷ []));
+      wanted = 0 ∷ 0 ∷ 0 ∷ 0 ∷ 0 ∷ 0 ∷ 38 ∷ 0 ∷ 0 ∷ 33 ∷ 2 ∷ 2 ∷ 2 ∷ [];
     }
 
 unfoldable pub cards : List Card
