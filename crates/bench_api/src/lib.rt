@@ -1,4 +1,4 @@
-// For measurements (bench/): the check of a slice alone, and steps one after another on a slice that is checked once.
+// For measurements (bench/): steps one after another on a slice that is checked once.
 ghost use mathlib.Core.Path.{_≡_};
 ghost use mathlib.Core.Bool.{true};
 ghost use Prim.Native.Nat.{_*_, _≤_};
@@ -9,14 +9,6 @@ ghost use Rattle.runfile.specs.Answers.{actionsOf};
 ghost use Rattle.step.specs.Numbers.{bytesNumber};
 use step::bytes_refusal;
 use step::step_hall;
-
-// 31, or 0 for a hall's stored form.
-#[no_mangle]
-pub extern "C" fn hall_check(hall: &[u8]) -> u32
-    ensures { λ n. ⌜ n ≡ bytesNumber (now (hall .entry)) ⌝ }
-{
-    bytes_refusal(hall)
-}
 
 // The first c actions of a slice, four words each, on bytes that hold a hall.
 fn run(hall: &mut [u8], actions: &[u32], c: usize)

@@ -1,5 +1,5 @@
-// The C interface (include/hall.h): open, step, settle, step back, page and run files, on numbers and slices. Each function returns 0 or
-// the number of the refusal. An answer is words in a lent slice.
+// The C interface (include/hall.h): open, step, settle, step back, page, check, run files and listings, on numbers and slices.
+// Each of these functions returns 0 or the number of the refusal. An answer is words in a lent slice.
 ghost use mathlib.Core.Path.{_≡_};
 ghost use mathlib.Core.List.{[], _∷_};
 ghost use Rattle.calls.specs.Calls.{openOn};
@@ -11,6 +11,10 @@ ghost use Rattle.stepback.specs.Lent.{stepHeldLent, settleHeldLent, LeavesHeld}
 ghost use Rattle.stepback.specs.Steps.{StepsBack};
 ghost use Rattle.calls.specs.RunsLent.{runReadLent, runActionLent, runWriteLent};
 ghost use Rattle.runfile.specs.Answers.{openingWith, runOf};
+ghost use Rattle.replaying.specs.Lent.{listLent, LeavesList};
+ghost use Rattle.step.specs.Numbers.{bytesNumber};
+ghost use Rattle.store.specs.Layout.{storedLength};
+ghost use Rattle.capi.specs.Version.{version};
 use marshal::page_into;
 use marshal::settle_held_into;
 use marshal::settle_into;
@@ -19,10 +23,32 @@ use marshal::step_into;
 use marshal_runs::run_action_into;
 use marshal_runs::run_read_into;
 use marshal_runs::run_write_into;
+use marshal_text::list_into;
 use opening::open;
 use runfile::FileOpening;
 use runfile::Votes;
+use step::bytes_refusal;
 use stepback::step_back;
+use store::layout;
+
+// Version of this interface: major * 1000000 + minor * 1000 + patch.
+const VERSION: u32 = 3008000;
+
+// Which version of this interface the library has.
+#[no_mangle]
+pub extern "C" fn hall_version() -> u32
+    ensures { λ n. ⌜ n ≡ version ⌝ }
+{
+    VERSION
+}
+
+// How many bytes a hall has.
+#[no_mangle]
+pub extern "C" fn hall_length() -> u32
+    ensures { λ n. ⌜ n ≡ storedLength ⌝ }
+{
+    layout::LENGTH as u32
+}
 
 // Opens a hall of n recorders with the founders of a word and the votes of recorders 1 to 8.
 #[no_mangle]
@@ -116,6 +142,14 @@ pub extern "C" fn hall_page(hall: &[u8], r: u32, place: u32, page: &mut [u8]) ->
     page_into(hall, r, place, page)
 }
 
+// 31 alone: 0 for a hall's stored form.
+#[no_mangle]
+pub extern "C" fn hall_check(hall: &[u8]) -> u32
+    ensures { λ n. ⌜ n ≡ bytesNumber (now (hall .entry)) ⌝ }
+{
+    bytes_refusal(hall)
+}
+
 // The opening of a run file.
 #[no_mangle]
 pub extern "C" fn hall_run_read(file: &[u8], words: &mut [u8]) -> u32
@@ -176,4 +210,19 @@ pub extern "C" fn hall_run_write(
         words: votes,
     };
     run_write_into(file, opening, actions, words)
+}
+
+// The listing of a run file, and the run's last hall.
+#[no_mangle]
+pub extern "C" fn hall_run_list(
+    file: &[u8],
+    hall: &mut [u8],
+    text: &mut [u8],
+    words: &mut [u8],
+) -> u32
+    ensures { λ n. ⌜ LeavesList
+        (listLent (now (file .entry)) (now (hall .entry)) (now (text .entry)) (now (words .entry)))
+        n (now (hall .exit)) (now (text .exit)) (now (words .exit)) ⌝ }
+{
+    list_into(file, hall, text, words)
 }

@@ -5,3 +5,5 @@ pub mod Numbers
 pub mod Longest
 pub mod FilesLaws
 pub mod LinesLaws
+pub mod LentLaws
+pub mod Refused
