@@ -1,16 +1,16 @@
 /*
  * HL3 hall log: open a hall, perform an action, settle the hall, step back,
- * read a recorder's page; read and write run files.
+ * read a recorder's page, check a hall; read, write and list run files.
  *
  * A hall is HALL_LENGTH bytes that the caller owns and lends to each call;
  * docs/stored-form.md describes them. The library keeps nothing between calls
  * and has no other memory, so a hall may be copied or stored as plain bytes.
  *
- * All calls return HALL_OK, which is 0, or the number of a refusal (enum
- * hall_refusal). A refused call leaves every lent byte as it was. Where several
- * refusals fit, the first in the order 11, 31, 42, 43, 12 to 16, 41, 32 to 40, 18
- * is given; 19, of run files alone, comes before 16 in reading and after 41 in
- * writing.
+ * All calls but hall_version and hall_length return HALL_OK, which is 0, or the
+ * number of a refusal (enum hall_refusal). A refused call leaves every lent byte
+ * as it was. Where several refusals fit, the first in the order 11, 31, 42, 43,
+ * 12 to 16, 41, 32 to 40, 18 is given; 19, of run files alone, comes before 16 in
+ * reading and after 41 in writing.
  *
  * A lent slice is a pointer and the number of bytes from there on.
  *  - It may be longer than needed: what lies past the first HALL_LENGTH bytes
@@ -23,14 +23,15 @@
  *
  * Threads. Different halls are independent: different threads may use them at
  * the same time. Of one hall, pages may be read by several threads at once, each
- * into a slice of its own; while a thread opens, steps, settles or steps back no
- * other thread uses it, so a caller that shares a hall locks it, and an undo
- * buffer with its hall. The library itself never waits.
+ * into a slice of its own, and it may be checked; while a thread opens, steps,
+ * settles, steps back or lists into it no other thread uses it, so a caller that
+ * shares a hall locks it, and an undo buffer with its hall. The library itself
+ * never waits.
  *
  * Platform. The library is built for Linux on x86-64, with the System V calling
- * convention. From outside it needs memcpy and memset alone. A settle, held or
- * not, and a step back take at most HALL_SETTLE_STACK bytes of stack, any other
- * call at most HALL_STACK, beside what the thread itself needs.
+ * convention. From outside it needs memcpy, memmove and memset alone. A settle,
+ * held or not, a step back and a listing take at most HALL_SETTLE_STACK bytes of
+ * stack, any other call at most HALL_STACK, beside what the thread itself needs.
  */
 #ifndef HL3_HALL_LOG_HALL_H
 #define HL3_HALL_LOG_HALL_H
@@ -42,20 +43,29 @@
 extern "C" {
 #endif
 
+/* Version of this interface: major * 1000000 + minor * 1000 + patch. */
+#define HALL_VERSION 3008000
+
 /* Bytes of a hall. */
 #define HALL_LENGTH 59731
+
+/* HALL_VERSION and HALL_LENGTH of the library that is linked, so that a program
+ * built with another header can tell. */
+uint32_t hall_version(void);
+uint32_t hall_length(void);
 
 /* Bytes of an undo buffer, and how many accepted actions it holds at most. */
 #define HALL_UNDO_LENGTH 8337
 #define HALL_MAX_UNDO 16
 
-/* Bytes of stack that suffice for any call but a settle and a step back: none but
- * a step that receives the last summary of an exchange takes 4,096, and that one
- * takes more for each entry still to be ordered. */
+/* Bytes of stack that suffice for any call but a settle, a step back and a
+ * listing: none but a step that receives the last summary of an exchange takes
+ * 4,096, and that one takes more for each entry still to be ordered. */
 #define HALL_STACK 8192
 
-/* Bytes of stack that suffice for a settle, a held settle and a step back: each
- * works on a copy of the hall. */
+/* Bytes of stack that suffice for a settle, a held settle and a step back, which
+ * work on a copy of the hall, and for a listing, which takes its run on a hall of
+ * its own first if `text` may be too short. */
 #define HALL_SETTLE_STACK 69632
 
 /* Bytes of an answer or a page: HALL_WORDS words of 32 bits, little-endian,
@@ -330,6 +340,14 @@ uint32_t hall_step_back(uint8_t *hall, size_t hall_len, uint8_t *undo, size_t un
 uint32_t hall_page(const uint8_t *hall, size_t hall_len, uint32_t r, uint32_t place, uint8_t *page,
                    size_t page_len);
 
+/*
+ * 31 alone: whether the first HALL_LENGTH bytes of `hall` are a hall's stored
+ * form.
+ *
+ * Returns HALL_OK; or 31, also if hall_len is below HALL_LENGTH.
+ */
+uint32_t hall_check(const uint8_t *hall, size_t hall_len);
+
 /* Word i of an answer or a page, i from 0 to HALL_WORDS - 1. */
 static inline uint32_t hall_word(const uint8_t *words, size_t i)
 {
@@ -349,7 +367,7 @@ static inline int32_t hall_signed(const uint8_t *words, size_t i)
  * Run files: an opening, and the actions of a run (docs/run-files.md). A settle
  * has no place of its own there: it stands as its steps.
  *
- * A run file is bytes that the caller owns and lends. The three calls keep to
+ * A run file is bytes that the caller owns and lends. The four calls keep to
  * what is said of all calls above; an answer is again words in a slice of at
  * least HALL_ANSWER_LENGTH bytes. An offset into a file is two words, the low
  * one first, read by hall_offset.
@@ -454,6 +472,30 @@ static inline size_t hall_offset(const uint8_t *words, size_t i)
 {
     return (size_t)((uint64_t)hall_word(words, i + 1) << 32 | hall_word(words, i));
 }
+
+/* Bytes of a line of a listing, at most, and of any listing. For a run of c
+ * actions HALL_LISTING_LINE * (c + 2) suffice. */
+#define HALL_LISTING_LINE 85
+#define HALL_MAX_LISTING 348160
+
+/* Words of a listing. */
+enum hall_listing_word {
+    HALL_LISTING_LENGTH = 0 /* how many bytes it has */
+};
+
+/*
+ * Writes the listing of a run file (docs/listing.md) at the start of `text`,
+ * bytes after it stay, its length into `words`, and the run's last hall into the
+ * first HALL_LENGTH bytes of `hall`. A file that is refused (19, 16, 41) has a
+ * listing too, of one line; it leaves the hall alone and asks nothing of its
+ * length.
+ *
+ * Returns HALL_OK; or 18 if text_len is below the listing's length, words_len
+ * below HALL_ANSWER_LENGTH or, for a file that is taken, hall_len below
+ * HALL_LENGTH.
+ */
+uint32_t hall_run_list(const uint8_t *file, size_t file_len, uint8_t *hall, size_t hall_len,
+                       uint8_t *text, size_t text_len, uint8_t *words, size_t words_len);
 
 #ifdef __cplusplus
 }

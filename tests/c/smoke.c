@@ -2,11 +2,13 @@
  * Opens a hall, takes the steps of the bench card "the listing" and reads
  * pages, and checks every value that comes back. Goes through views with great
  * numbers. Reads the margins of opened halls, with the built-in row and with
- * votes. Settles halls. Writes and reads run files, with votes and without. Then
- * refused calls, each of which must leave all lent bytes as they were.
+ * votes. Settles halls. Checks halls. Writes and reads run files, with votes and
+ * without, and lists them. Then refused calls, each of which must leave all lent
+ * bytes as they were.
  *
  * Each lent slice is allocated by itself with just the length that is lent, so
- * that a memory checker sees any access outside it.
+ * that a memory checker sees any access outside it. The files of examples/ are
+ * found from this folder.
  *
  * The last line is 'N passed, M failed'.
  */
@@ -914,8 +916,169 @@ static void longest_run(void)
     free(file);
 }
 
+/* The library is that of the header. */
+static void same_version(void)
+{
+    CHECK(hall_version() == HALL_VERSION);
+    CHECK(hall_length() == HALL_LENGTH);
+}
+
+/* 31 alone, in slices of any length. */
+static void checked_halls(void)
+{
+    const size_t rest = 1000;
+    uint8_t *hall = filled(HALL_LENGTH + rest, 0xa5);
+    uint8_t *before = filled(HALL_LENGTH + rest, 0xa5);
+    uint8_t *none = filled(0, 0);
+
+    CHECK(hall_check(hall, HALL_LENGTH + rest) == HALL_REFUSED_BYTES);
+    CHECK(hall_check(none, 0) == HALL_REFUSED_BYTES);
+    CHECK(hall_open_built_in(hall, HALL_LENGTH, 3, 3) == 0);
+    memcpy(before, hall, HALL_LENGTH);
+    CHECK(hall_check(hall, HALL_LENGTH) == 0);
+    CHECK(hall_check(hall, HALL_LENGTH + rest) == 0);
+    CHECK(hall_check(hall, HALL_LENGTH - 1) == HALL_REFUSED_BYTES);
+    CHECK(memcmp(hall, before, HALL_LENGTH + rest) == 0);
+    hall[0] = 9; /* N */
+    CHECK(hall_check(hall, HALL_LENGTH) == HALL_REFUSED_BYTES);
+    hall[0] = before[0];
+    hall[HALL_LENGTH - 1] = 1; /* a vote of a recorder above N */
+    CHECK(hall_check(hall, HALL_LENGTH) == HALL_REFUSED_BYTES);
+    free(none);
+    free(before);
+    free(hall);
+}
+
+/* The bytes of a file, in a slice of just their length. */
+static uint8_t *bytes_of(const char *name, size_t *length)
+{
+    static uint8_t read[HALL_MAX_FILE];
+    FILE *file = fopen(name, "rb");
+    if (!file) {
+        printf("%s cannot be read\n", name);
+        exit(2);
+    }
+    *length = fread(read, 1, sizeof read, file);
+    fclose(file);
+    uint8_t *bytes = filled(*length, 0);
+    memcpy(bytes, read, *length);
+    return bytes;
+}
+
+/* Whether a file, with any bytes for its hall, has this listing in a text of just
+ * its length and in a longer one, of which the rest stays. */
+static int listing_is(const uint8_t *file, size_t file_len, uint8_t *hall, size_t hall_len, const void *listing,
+                      uint32_t length)
+{
+    const size_t rest = 100;
+    uint8_t *text = filled(length, 0xa5);
+    uint8_t *longer = filled(length + rest, 0xa5);
+    uint8_t *words = filled(HALL_ANSWER_LENGTH + 3, 0xa5);
+    int ok = hall_run_list(file, file_len, hall, hall_len, text, length, words, HALL_ANSWER_LENGTH + 3) == 0 &&
+             words_are(words, 3, &length, 1) && memcmp(text, listing, length) == 0 &&
+             hall_run_list(file, file_len, hall, hall_len, longer, length + rest, words, HALL_ANSWER_LENGTH) == 0 &&
+             memcmp(longer, listing, length) == 0 && holds_only(longer, length, length + rest, 0xa5);
+    free(words);
+    free(longer);
+    free(text);
+    return ok;
+}
+
+/* Whether a file is not listed into slices of these lengths, and all bytes
+ * stay. */
+static int listing_short(const uint8_t *file, size_t file_len, size_t hall_len, size_t text_len, size_t words_len)
+{
+    uint8_t *hall = filled(hall_len, 0x5a);
+    uint8_t *text = filled(text_len, 0xa5);
+    uint8_t *words = filled(words_len, 0xa5);
+    int ok = hall_run_list(file, file_len, hall, hall_len, text, text_len, words, words_len) == HALL_REFUSED_SHORT &&
+             holds_only(hall, 0, hall_len, 0x5a) && holds_only(text, 0, text_len, 0xa5) &&
+             holds_only(words, 0, words_len, 0xa5);
+    free(words);
+    free(text);
+    free(hall);
+    return ok;
+}
+
+/* The example of docs/listing.md. The hall is the last one of its run. */
+static void listed_run(void)
+{
+    const size_t rest = 1000;
+    const uint32_t last[] = {1, 1, HALL_PHASE_NORMAL, 2, 1, 1, 0, 2, 2, 1, 1, 1, 700};
+    size_t file_len;
+    size_t listing_len;
+    uint8_t *file = bytes_of("../../examples/first.run", &file_len);
+    uint8_t *listing = bytes_of("../../examples/first.listing", &listing_len);
+    uint8_t *hall = filled(HALL_LENGTH + rest, 0x5a);
+
+    CHECK(listing_len == 123);
+    CHECK(listing_is(file, file_len, hall, HALL_LENGTH + rest, listing, (uint32_t)listing_len));
+    CHECK(page_gives(hall, 1, 1, last, 13));
+    CHECK(holds_only(hall, HALL_LENGTH, HALL_LENGTH + rest, 0x5a));
+    CHECK(listing_short(file, file_len, HALL_LENGTH - 1, HALL_MAX_LISTING, HALL_ANSWER_LENGTH));
+    CHECK(listing_short(file, file_len, HALL_LENGTH, listing_len - 1, HALL_ANSWER_LENGTH));
+    CHECK(listing_short(file, file_len, HALL_LENGTH, HALL_MAX_LISTING, HALL_ANSWER_LENGTH - 1));
+    CHECK(listing_short(file, file_len, 0, 0, 0));
+    free(hall);
+    free(listing);
+    free(file);
+}
+
+/* A file that is refused has a listing, and needs no hall. */
+static void listed_refusals(void)
+{
+    const char *broken = "refused 19\n";
+    const char *opening = "refused 16\n";
+    const uint32_t length = 11;
+    uint8_t *file = run_file();
+    uint8_t *hall = filled(HALL_LENGTH, 0x5a);
+    uint8_t *none = filled(0, 0);
+
+    CHECK(listing_is(none, 0, none, 0, broken, length));
+    CHECK(listing_is(file, RUN_LENGTH - 1, hall, HALL_LENGTH, broken, length));
+    file[0] = 9;
+    CHECK(listing_is(file, RUN_LENGTH, hall, HALL_LENGTH, opening, length));
+    CHECK(holds_only(hall, 0, HALL_LENGTH, 0x5a));
+    CHECK(listing_short(file, RUN_LENGTH, 0, length - 1, HALL_ANSWER_LENGTH));
+    CHECK(listing_short(file, RUN_LENGTH, 0, length, HALL_ANSWER_LENGTH - 1));
+    free(none);
+    free(hall);
+    free(file);
+}
+
+/* The longest run, of actions that are no kind, in a text that any listing
+ * fits. */
+static void longest_listing(void)
+{
+    const size_t count = 4 * HALL_MAX_ACTIONS;
+    const char *end = "end 0 4094\n";
+    uint8_t *file = filled(HALL_MAX_FILE, 0);
+    uint8_t *hall = filled(HALL_LENGTH, 0);
+    uint8_t *text = filled(HALL_MAX_LISTING, 0xa5);
+    uint8_t *words = filled(HALL_ANSWER_LENGTH, 0xa5);
+    uint32_t *actions = calloc(count, sizeof *actions);
+    if (!actions) {
+        puts("no memory");
+        exit(2);
+    }
+
+    CHECK(HALL_MAX_LISTING == HALL_LISTING_LINE * (HALL_MAX_ACTIONS + 2));
+    CHECK(hall_run_write_built_in(file, HALL_MAX_FILE, 8, 0, actions, count, words, HALL_ANSWER_LENGTH) == 0);
+    CHECK(hall_run_list(file, HALL_MAX_FILE, hall, HALL_LENGTH, text, HALL_MAX_LISTING, words,
+                        HALL_ANSWER_LENGTH) == 0);
+    uint32_t length = hall_word(words, HALL_LISTING_LENGTH);
+    CHECK(length > strlen(end) && memcmp(text + length - strlen(end), end, strlen(end)) == 0);
+    CHECK(holds_only(text, length, HALL_MAX_LISTING, 0xa5));
+    free(actions);
+    free(words);
+    free(text);
+    free(hall);
+    free(file);
+}
+
 int main(void)
 {
+    same_version();
     listing_card();
     second_view();
     view_numbers();
@@ -943,5 +1106,9 @@ int main(void)
     refused_votes_to_write();
     refused_votes_to_read();
     longest_run_with_votes();
+    checked_halls();
+    listed_run();
+    listed_refusals();
+    longest_listing();
     return end_checks();
 }

@@ -1,8 +1,8 @@
 /*
  * Measures how many bytes of stack each call takes: it runs in a thread whose
  * stack is painted before the call and looked at afterwards. A settle, held or
- * not, and a step back take at most HALL_SETTLE_STACK. No other call takes more
- * than HALL_STACK, and only one 4,096 or more: the last summary of an exchange
+ * not, a step back and a listing take at most HALL_SETTLE_STACK. No other call
+ * takes more than HALL_STACK, and only one 4,096 or more: the last summary of an exchange
  * that leaves all entries to be put into order, one level of recursion for each.
  * Prints the most that each kind of call took.
  *
@@ -18,8 +18,8 @@
 
 enum { AREA = 1 << 20, PAINT = 0xa5, MARGIN = 256 };
 
-/* What a call may take: a settle or a step back, the step that puts entries into
- * order, and any other. */
+/* What a call may take: a settle, a step back or a listing, the step that puts
+ * entries into order, and any other. */
 enum { SETTLING = HALL_SETTLE_STACK, ORDERING = HALL_STACK, SMALL = 4095 };
 
 static uint8_t hall[HALL_LENGTH];
@@ -28,6 +28,11 @@ static uint8_t undo[HALL_UNDO_LENGTH];
 static uint8_t answer[HALL_ANSWER_LENGTH];
 static uint8_t file[HALL_MAX_FILE];
 static uint32_t actions[4 * HALL_MAX_ACTIONS];
+static uint8_t text[HALL_MAX_LISTING];
+
+/* The bytes of the file to list and of the text lent for its listing. */
+static size_t file_length;
+static size_t text_length;
 
 /* The words of the step to take, the room for its answer or for that of a settle,
  * and the number that came back. */
@@ -96,6 +101,16 @@ static void read_run(void)
 static void read_action(void)
 {
     number = hall_run_action(file, sizeof file, HALL_RUN_BLOCK, answer, sizeof answer);
+}
+
+static void check_hall(void)
+{
+    number = hall_check(hall, sizeof hall);
+}
+
+static void list_run(void)
+{
+    number = hall_run_list(file, file_length, hall, sizeof hall, text, text_length, answer, room);
 }
 
 static void fail(const char *what)
@@ -183,11 +198,15 @@ static struct peak peaks[] = {
     {"step back, the last summary", 0},
     {"step back, any other", 0},
     {"page of a full order", 0},
+    {"check", 0},
     {"write a run", 0},
     {"read a run", 0},
     {"write a run with votes", 0},
     {"read a run with votes", 0},
     {"read an action", 0},
+    {"list a file that is refused", 0},
+    {"list a run", 0},
+    {"list a run, which is measured first", 0},
 };
 
 enum { PEAKS = sizeof peaks / sizeof peaks[0] };
@@ -332,6 +351,51 @@ static void longest_settle(void)
     settle_within("settle, the longest", "held settle, the longest");
 }
 
+/* Puts an action into the list at a place, and gives the place after it. */
+static size_t put_action(size_t at, uint32_t k, uint32_t r, uint32_t a, uint32_t b)
+{
+    const uint32_t action[] = {k, r, a, b};
+    memcpy(actions + 4 * at, action, sizeof action);
+    return at + 1;
+}
+
+/* The run of the longest order, into the file. */
+static void write_longest_order(void)
+{
+    size_t count = 0;
+    for (uint32_t i = 1; i <= HALL_MAX_ENTRIES; i++) {
+        count = put_action(count, HALL_SUBMIT, 1, i, 0);
+        count = put_action(count, HALL_LABEL, 1, 0, 0);
+    }
+    count = put_action(count, HALL_FORM, 0, 2, 1);
+    count = put_action(count, HALL_ENTER, 1, 2, 0);
+    count = put_action(count, HALL_SEND_SUMMARY, 1, 0, 0);
+    count = put_action(count, HALL_PLACE, 1, 2, 0);
+    count = put_action(count, HALL_RECEIVE, 1, 0, 0);
+    number = hall_run_write_built_in(file, sizeof file, 1, 1, actions, 4 * count, answer, sizeof answer);
+    file_length = hall_word(answer, HALL_WRITTEN_LENGTH);
+    if (number != HALL_OK) {
+        fail("no run");
+    }
+}
+
+/* The listing of that run: into a text that is long enough for any, into one of
+ * just its length, and into one byte less. */
+static void listings(void)
+{
+    file_length = 0;
+    text_length = sizeof text;
+    answered_within(SETTLING, "list a file that is refused", list_run);
+    write_longest_order();
+    answered_within(SETTLING, "list a run", list_run);
+    text_length = hall_word(answer, HALL_LISTING_LENGTH);
+    answered_within(SETTLING, "list a run, which is measured first", list_run);
+    text_length--;
+    measure("list a run, which is measured first", list_run, HALL_REFUSED_SHORT, SETTLING);
+    measure("check", check_hall, HALL_OK, SMALL);
+    measure("page of a full order", read_page, HALL_OK, SMALL);
+}
+
 int main(void)
 {
     measure("open with votes", open_row, HALL_OK, SMALL);
@@ -346,6 +410,7 @@ int main(void)
     measure("write a run with votes", write_votes, HALL_OK, SMALL);
     measure("read a run with votes", read_run, HALL_OK, SMALL);
     measure("read an action", read_action, HALL_OK, SMALL);
+    listings();
 
     print_peaks();
     printf("%u passed, %u failed\n", passed, failed);
