@@ -12,6 +12,7 @@
 use crate::inner;
 use crate::inputs::{self, Run, Settle, Snapshot};
 use crate::plain;
+use compare::library;
 use reference::stored::{self, LENGTH};
 use reference::{open_built_in, Answer, Hall};
 use std::hint::black_box;
@@ -200,7 +201,7 @@ fn count_settle(settle: &Settle) {
 /// The row of the check.
 fn count_checks(name: &str, halls: &[Snapshot]) {
     for hall in halls {
-        assert_eq!(inner::check(hall.lent.area()), 0);
+        assert_eq!(library::check_of(hall.lent.area()), 0);
     }
     bench_part_ends();
     bench_part_ends();

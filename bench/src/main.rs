@@ -113,7 +113,7 @@ fn main() {
     if inner::LINKED {
         print_counts(&mut output);
     } else {
-        eprintln!("not built: the library bench_api (check alone, step without check)");
+        eprintln!("not built: the library bench_api (step without check)");
     }
     output.end();
 }

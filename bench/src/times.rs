@@ -242,7 +242,7 @@ impl Halls {
     }
 
     fn library_checks(&self) -> u32 {
-        self.slices().map(inner::check).sum()
+        self.slices().map(library::check_of).sum()
     }
 
     fn rust_checks(&self) -> usize {
@@ -308,10 +308,8 @@ pub fn pages_and_checks(passes: u32, run: &Run) -> [Table; 2] {
         halls.page_rows(&mut pages);
     }
     let mut checks = Table::new("Check: microseconds a call", Unit::Microseconds, passes);
-    if inner::LINKED {
-        for halls in &halls {
-            halls.check_rows(&mut checks);
-        }
+    for halls in &halls {
+        halls.check_rows(&mut checks);
     }
     [pages, checks]
 }

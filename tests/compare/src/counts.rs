@@ -14,9 +14,11 @@ pub enum Call {
     HeldSettle,
     StepBack,
     Page,
+    Check,
     RunRead,
     RunAction,
     RunWrite,
+    RunList,
 }
 
 impl fmt::Display for Call {
@@ -31,9 +33,11 @@ impl fmt::Display for Call {
             Call::HeldSettle => write!(f, "settle, held"),
             Call::StepBack => write!(f, "step back"),
             Call::Page => write!(f, "page"),
+            Call::Check => write!(f, "check"),
             Call::RunRead => write!(f, "run read"),
             Call::RunAction => write!(f, "run action"),
             Call::RunWrite => write!(f, "run write"),
+            Call::RunList => write!(f, "run list"),
         }
     }
 }
@@ -53,6 +57,9 @@ const CASES: [&str; 4] = ["done", "entry", "summary", "from"];
 
 /// Those of an action of a run file.
 const RUN_CASES: [&str; 2] = ["action", "end"];
+
+/// Which files are listed.
+const LIST_CASES: [&str; 2] = ["a run", "a refused file"];
 
 /// The refusals of each kind by 01, without 18, which each kind has.
 const REFUSALS: [&[u32]; 12] = [
@@ -102,8 +109,12 @@ fn wanted_answers() -> Vec<(Call, u32, u32)> {
         wanted.push((Call::RunRead, number, 0));
         wanted.push((Call::RunWrite, number, 0));
     }
+    for number in [0, 31] {
+        wanted.push((Call::Check, number, 0));
+    }
     for (number, case) in [(0, 0), (0, 1), (18, 0)] {
         wanted.push((Call::RunAction, number, case));
+        wanted.push((Call::RunList, number, case));
     }
     for (kind, refusals) in REFUSALS.iter().enumerate() {
         let number = kind as u32;
@@ -166,6 +177,7 @@ fn name((call, number, case): (Call, u32, u32)) -> String {
         (Call::Step(_) | Call::HeldStep(_), 0) => format!("{call}: {}", CASES[case as usize]),
         (Call::StepBack, 0) => format!("{call}: kind {case}"),
         (Call::RunAction, 0) => format!("{call}: {}", RUN_CASES[case as usize]),
+        (Call::RunList, 0) => format!("{call}: {}", LIST_CASES[case as usize]),
         (_, 0) => format!("{call}: taken"),
         _ => format!("{call}: {number}"),
     }

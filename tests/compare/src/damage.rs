@@ -40,8 +40,9 @@ fn sound_hall(random: &mut Random) -> Hall {
     hall
 }
 
-/// A step, a page or a settle on bytes that may be no hall.
+/// A check, and a step, a page or a settle, on bytes that may be no hall.
 fn call(random: &mut Random, pair: &mut Pair, counts: &mut Counts) -> Result<(), Difference> {
+    pair.check(counts)?;
     let hall = pair.hall();
     counts.event(if hall.is_some() {
         STILL_A_HALL

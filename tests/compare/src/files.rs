@@ -71,7 +71,7 @@ fn block_at(file: &[u8]) -> Option<usize> {
 }
 
 /// Bytes of a run, by the third word; any but 1 has no votes.
-fn run_length(third: u32, count: usize) -> usize {
+pub(crate) fn run_length(third: u32, count: usize) -> usize {
     BLOCK * (count + if third == 1 { 4 } else { 2 })
 }
 
@@ -323,7 +323,7 @@ fn most_actions(third: u32) -> usize {
 }
 
 /// How many actions a file has: mostly few.
-fn any_count(random: &mut Random, third: u32) -> usize {
+pub(crate) fn any_count(random: &mut Random, third: u32) -> usize {
     let most = most_actions(third);
     match random.below(12) {
         0 => most - random.below(3),
@@ -333,7 +333,7 @@ fn any_count(random: &mut Random, third: u32) -> usize {
 }
 
 /// An opening that is taken, with votes or with the built-in row.
-fn right_opening(random: &mut Random) -> Opening {
+pub(crate) fn right_opening(random: &mut Random) -> Opening {
     let n = random.between(1, 8);
     let founders = random.below(1 << n) as u32;
     if random.coin() {
@@ -433,7 +433,7 @@ fn damage_votes(random: &mut Random, file: &mut [u8]) {
 }
 
 /// Damages a file: bytes changed, cut off or added.
-fn damage(random: &mut Random, file: &mut Vec<u8>) {
+pub(crate) fn damage(random: &mut Random, file: &mut Vec<u8>) {
     let length = file.len();
     let blocks = length / BLOCK;
     match random.below(18) {

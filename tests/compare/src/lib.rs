@@ -12,6 +12,7 @@ pub mod files;
 pub mod flaws;
 pub mod halls;
 pub mod library;
+pub mod listings;
 pub mod margins;
 pub mod offsets;
 pub mod openings;

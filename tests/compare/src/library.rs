@@ -64,6 +64,8 @@ extern "C" {
         page_len: usize,
     ) -> u32;
 
+    fn hall_check(hall: *const u8, hall_len: usize) -> u32;
+
     fn hall_run_read(file: *const u8, file_len: usize, words: *mut u8, words_len: usize) -> u32;
 
     fn hall_run_action(
@@ -93,6 +95,19 @@ extern "C" {
         words: *mut u8,
         words_len: usize,
     ) -> u32;
+
+    fn hall_run_list(
+        file: *const u8,
+        file_len: usize,
+        hall: *mut u8,
+        hall_len: usize,
+        text: *mut u8,
+        text_len: usize,
+        words: *mut u8,
+        words_len: usize,
+    ) -> u32;
+
+    fn hall_length() -> u32;
 }
 
 /// Bytes before and after an area. An odd number, so that an area has no
@@ -241,6 +256,22 @@ pub fn page(hall: &mut Lent, r: u32, place: u32, page: &mut Lent) -> u32 {
     }
 }
 
+pub fn check(hall: &mut Lent) -> u32 {
+    // Safety: as for a page.
+    unsafe { hall_check(hall.pointer(), hall.length) }
+}
+
+/// The same on bytes that are not copied between guards.
+pub fn check_of(hall: &[u8]) -> u32 {
+    // Safety: the pointer is that of the slice.
+    unsafe { hall_check(hall.as_ptr(), hall.len()) }
+}
+
+pub fn length() -> u32 {
+    // Safety: it takes nothing.
+    unsafe { hall_length() }
+}
+
 pub fn run_read(file: &mut Lent, words: &mut Lent) -> u32 {
     // Safety: as for a page.
     unsafe { hall_run_read(file.pointer(), file.length, words.pointer(), words.length) }
@@ -294,6 +325,22 @@ pub fn run_write(file: &mut Lent, opening: Opening, actions: &mut [u32], words: 
             v8,
             actions.as_mut_ptr(),
             actions.len(),
+            words.pointer(),
+            words.length,
+        )
+    }
+}
+
+pub fn run_list(file: &mut Lent, hall: &mut Lent, text: &mut Lent, words: &mut Lent) -> u32 {
+    // Safety: as for a page, for four areas that do not overlap.
+    unsafe {
+        hall_run_list(
+            file.pointer(),
+            file.length,
+            hall.pointer(),
+            hall.length,
+            text.pointer(),
+            text.length,
             words.pointer(),
             words.length,
         )

@@ -13,8 +13,8 @@
 use compare::counts::Counts;
 use compare::pair::Difference;
 use compare::{
-    bench, courses, damage, decisions, events, files, flaws, margins, offsets, openings, runs,
-    settles, stepbacks, vectors,
+    bench, courses, damage, decisions, events, files, flaws, listings, margins, offsets, openings,
+    runs, settles, stepbacks, vectors,
 };
 use std::env;
 use std::process::ExitCode;
@@ -36,7 +36,7 @@ const RANDOM: [&[&str]; 2] = [&decisions::RANDOM, &events::BY_ROW];
 const SETTLES: [&[&str]; 1] = [&courses::ANY];
 const ODD_SETTLES: [&[&str]; 2] = [&courses::ANY, &courses::RANDOM];
 
-const TESTS: [Row; 33] = [
+const TESTS: [Row; 35] = [
     ("offsets by hand", offsets::by_hand, 1, &[]),
     ("vectors", vectors::all, 1, &[]),
     ("recorded settles", vectors::settles, 1, &[]),
@@ -70,6 +70,8 @@ const TESTS: [Row; 33] = [
     ("damaged run files", files::damaged, 400, &[]),
     ("written run files", files::written, 200, &[]),
     ("offsets of 64 bits", files::high_words, 1, &[]),
+    ("listings of vectors", listings::vectors, 1, &[]),
+    ("listings", listings::any, 200, &[]),
 ];
 
 /// In place of "damaged bytes", on request.
@@ -178,6 +180,7 @@ fn report_counts(counts: &Counts, mut missing: Vec<String>) -> bool {
     events.extend([damage::STILL_A_HALL, damage::NO_HALL, damage::SETTLED]);
     events.extend(margins::EVENTS);
     events.extend(files::EVENTS);
+    events.extend(listings::EVENTS);
     events.extend(bench::EVENTS);
     events.extend(stepbacks::EVENTS);
     events.extend([flaws::STEP, flaws::SETTLE, flaws::BACK].as_flattened());

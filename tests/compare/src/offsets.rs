@@ -3,6 +3,7 @@
 
 use crate::counts::Counts;
 use crate::halls;
+use crate::library;
 use crate::pair::{Difference, Pair};
 use crate::random::Random;
 use reference::calls::ANSWER_LENGTH;
@@ -182,6 +183,10 @@ const LATER: u32 = 0x0403_0201;
 /// What the library stores is read at the offsets, without the second
 /// implementation.
 pub fn by_hand(_: u64, counts: &mut Counts) -> Result<(), Difference> {
+    let length = library::length() as usize;
+    if length != LENGTH {
+        return Err(format!("a hall's length is {length}, must be {LENGTH}"));
+    }
     let mut pair = Pair::of_bytes(vec![0xff; LENGTH], LENGTH);
     pair.open(3, 0b011, [1_000, 3, 0x201, 0, 0, 0, 0, 0], counts)?;
     let actions = [

@@ -277,6 +277,22 @@ impl Pair {
         Ok((number, words))
     }
 
+    /// 31 alone.
+    pub fn check(&mut self, counts: &mut Counts) -> Result<(), Difference> {
+        let wanted = match self.hall {
+            Some(_) => 0,
+            None => refusal::STORED_FORM,
+        };
+        let number = library::check(&mut self.lent);
+        if number != wanted {
+            return Err(format!("check: number {number}, must be {wanted}"));
+        }
+        self.compare(None)
+            .map_err(|what| format!("check: {what}"))?;
+        counts.call(Call::Check, number, 0);
+        Ok(())
+    }
+
     /// The second implementation reads its own bytes as the same hall.
     pub fn read_back(&self) -> Result<(), Difference> {
         if stored::read(&self.wanted[..self.lent.length()]) == self.hall {

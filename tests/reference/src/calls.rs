@@ -4,6 +4,7 @@
 
 use crate::actions::{judge_kind, Answer};
 use crate::hall::{open as open_hall, Hall, Votes};
+use crate::listing::{refused_line, replay};
 use crate::page::Page;
 use crate::refusal;
 use crate::runfile::{action_at, read_run_file, write_run_file, Opening, BLOCK};
@@ -276,6 +277,14 @@ pub fn page(bytes: &[u8], r: u32, place: u32, page: &mut [u8]) -> u32 {
     number(try_page(bytes, r, place, page))
 }
 
+/// Whether a slice holds a hall; 31.
+pub fn check(bytes: &[u8]) -> u32 {
+    match stored::read(bytes) {
+        Some(_) => 0,
+        None => refusal::STORED_FORM,
+    }
+}
+
 /// Puts the words of a call that is not refused for another reason.
 fn answer(slice: &mut [u8], words: [u32; WORDS]) -> Result<(), u32> {
     if !has_room(slice) {
@@ -345,4 +354,32 @@ fn try_run_write(
 /// Writes a run, four words an action, at a slice's start; 16, 41, 19, 18.
 pub fn run_write(file: &mut [u8], opening: Opening, actions: &[u32], words: &mut [u8]) -> u32 {
     number(try_run_write(file, opening, actions, words))
+}
+
+fn try_run_list(
+    file: &[u8],
+    hall: &mut [u8],
+    text: &mut [u8],
+    slice: &mut [u8],
+) -> Result<(), u32> {
+    let (lines, last) = match replay(file) {
+        Ok((lines, last)) => (lines, Some(last)),
+        Err(number) => (refused_line(number), None),
+    };
+    let hall_short = last.is_some() && hall.len() < stored::LENGTH;
+    if hall_short || text.len() < lines.len() {
+        return Err(refusal::SHORT_SLICE);
+    }
+    answer(slice, words([lines.len() as u32]))?;
+    text[..lines.len()].copy_from_slice(lines.as_bytes());
+    if let Some(last) = last {
+        stored::write(&last, hall);
+    }
+    Ok(())
+}
+
+/// Lists a run file at the start of a text, with the run's last hall in a slice;
+/// 18.
+pub fn run_list(file: &[u8], hall: &mut [u8], text: &mut [u8], words: &mut [u8]) -> u32 {
+    number(try_run_list(file, hall, text, words))
 }

@@ -17,7 +17,8 @@
 //! - `undo`: the undo buffer, read and written.
 //! - `stepback`: held steps, held settles and steps back.
 //! - `kept`: steps back by whole halls, to test these.
-//! - `calls`: open, step, settle, step back, page and run files on lent bytes.
+//! - `calls`: open, step, settle, step back, page, check, run files and their
+//!   listings on lent bytes.
 //! - `runfile` and `listing`: run files and the listing of a replay.
 //! - `refusal`: the numbers of the refusals.
 

@@ -1,8 +1,9 @@
 //! The calls of `include/hall.h` over the second implementation, right or with
-//! one of the mistakes here, in `numbers`, in `choices`, in `votes`, in `settles`
-//! and in `stepbacks`, which HALL_FAULT names.
+//! one of the mistakes here, in `numbers`, in `choices`, in `votes`, in `settles`,
+//! in `stepbacks` and in `listings`, which HALL_FAULT names.
 
 mod choices;
+mod listings;
 mod numbers;
 mod settles;
 mod stepbacks;
@@ -226,6 +227,31 @@ pub unsafe extern "C" fn hall_page(
 /// # Safety
 /// As in `include/hall.h`.
 #[no_mangle]
+pub unsafe extern "C" fn hall_check(hall: *const u8, hall_len: usize) -> u32 {
+    let hall = from_raw_parts(hall, hall_len);
+    if faulty("a check of the length alone") {
+        return if hall.len() < LENGTH { 31 } else { 0 };
+    }
+    if faulty("a longer slice is no hall") && hall.len() > LENGTH {
+        return 31;
+    }
+    wrong_check(hall).unwrap_or_else(|| calls::check(hall))
+}
+
+#[no_mangle]
+pub extern "C" fn hall_version() -> u32 {
+    3_008_000
+}
+
+#[no_mangle]
+pub extern "C" fn hall_length() -> u32 {
+    let more = faulty("a byte more than a hall has");
+    LENGTH as u32 + u32::from(more)
+}
+
+/// # Safety
+/// As in `include/hall.h`.
+#[no_mangle]
 pub unsafe extern "C" fn hall_run_read(
     file: *const u8,
     file_len: usize,
@@ -335,6 +361,26 @@ pub unsafe extern "C" fn hall_run_write(
         file[32 + votes + 16 * (actions.len() / 4)..].fill(0);
     }
     number
+}
+
+/// # Safety
+/// As in `include/hall.h`.
+#[no_mangle]
+pub unsafe extern "C" fn hall_run_list(
+    file: *const u8,
+    file_len: usize,
+    hall: *mut u8,
+    hall_len: usize,
+    text: *mut u8,
+    text_len: usize,
+    words: *mut u8,
+    words_len: usize,
+) -> u32 {
+    let file = from_raw_parts(file, file_len);
+    let hall = from_raw_parts_mut(hall, hall_len);
+    let text = from_raw_parts_mut(text, text_len);
+    let words = from_raw_parts_mut(words, words_len);
+    listings::run_list(file, hall, text, words)
 }
 
 /// 31 for bytes that are a hall: rules that 01 does not have.
