@@ -1,4 +1,4 @@
-// The C interface (include/hall.h): open, step, settle, step back, page, check, run files and listings, on numbers and slices.
+// The C interface (include/hall.h): open, step, settle, step back, page, check, run files, listings and lines of text, on numbers and slices.
 // Each of these functions returns 0 or the number of the refusal. An answer is words in a lent slice.
 ghost use mathlib.Core.Path.{_≡_};
 ghost use mathlib.Core.List.{[], _∷_};
@@ -10,8 +10,9 @@ ghost use Rattle.stepback.specs.Held.{benchOf};
 ghost use Rattle.stepback.specs.Lent.{stepHeldLent, settleHeldLent, LeavesHeld};
 ghost use Rattle.stepback.specs.Steps.{StepsBack};
 ghost use Rattle.calls.specs.RunsLent.{runReadLent, runActionLent, runWriteLent};
-ghost use Rattle.runfile.specs.Answers.{openingWith, runOf};
+ghost use Rattle.runfile.specs.Answers.{openingWith, fileOpening, runOf};
 ghost use Rattle.replaying.specs.Lent.{listLent, LeavesList};
+ghost use Rattle.story.specs.Lent.{actionLent, openingLent, parseLent};
 ghost use Rattle.step.specs.Numbers.{bytesNumber};
 ghost use Rattle.store.specs.Layout.{storedLength};
 ghost use Rattle.capi.specs.Version.{version};
@@ -24,6 +25,9 @@ use marshal_runs::run_action_into;
 use marshal_runs::run_read_into;
 use marshal_runs::run_write_into;
 use marshal_text::list_into;
+use marshal_text::parse_line_into;
+use marshal_text::print_action_into;
+use marshal_text::print_opening_into;
 use opening::open;
 use runfile::FileOpening;
 use runfile::Votes;
@@ -168,6 +172,41 @@ pub extern "C" fn hall_run_action(file: &[u8], at: usize, words: &mut [u8]) -> u
     run_action_into(file, at, words)
 }
 
+// An opening by its words.
+fn opening_of(
+    n: u32,
+    founders: u32,
+    third: u32,
+    v1: u32,
+    v2: u32,
+    v3: u32,
+    v4: u32,
+    v5: u32,
+    v6: u32,
+    v7: u32,
+    v8: u32,
+) -> FileOpening
+    ensures { λ o. ⌜ fileOpening o
+        ≡ openingWith n founders third (v1 ∷ v2 ∷ v3 ∷ v4 ∷ v5 ∷ v6 ∷ v7 ∷ v8 ∷ []) ⌝ }
+{
+    let words = Votes {
+        v1,
+        v2,
+        v3,
+        v4,
+        v5,
+        v6,
+        v7,
+        v8,
+    };
+    FileOpening {
+        size: n,
+        founders,
+        third,
+        words,
+    }
+}
+
 // Writes a run, four words an action, at the start of a slice: its opening is N, the founders word, the third word and the
 // eight vote words.
 #[no_mangle]
@@ -193,22 +232,7 @@ pub extern "C" fn hall_run_write(
         (now (words .entry)))
         r (now (file .exit)) (now (words .exit)) ⌝ }
 {
-    let votes = Votes {
-        v1,
-        v2,
-        v3,
-        v4,
-        v5,
-        v6,
-        v7,
-        v8,
-    };
-    let opening = FileOpening {
-        size: n,
-        founders,
-        third,
-        words: votes,
-    };
+    let opening = opening_of(n, founders, third, v1, v2, v3, v4, v5, v6, v7, v8);
     run_write_into(file, opening, actions, words)
 }
 
@@ -225,4 +249,55 @@ pub extern "C" fn hall_run_list(
         n (now (hall .exit)) (now (text .exit)) (now (words .exit)) ⌝ }
 {
     list_into(file, hall, text, words)
+}
+
+// The line of an opening: N, the founders word, the third word and the eight vote words.
+#[no_mangle]
+pub extern "C" fn hall_print_opening(
+    n: u32,
+    founders: u32,
+    third: u32,
+    v1: u32,
+    v2: u32,
+    v3: u32,
+    v4: u32,
+    v5: u32,
+    v6: u32,
+    v7: u32,
+    v8: u32,
+    text: &mut [u8],
+    words: &mut [u8],
+) -> u32
+    ensures { λ r. ⌜ Leaves
+        (openingLent (openingWith n founders third (v1 ∷ v2 ∷ v3 ∷ v4 ∷ v5 ∷ v6 ∷ v7 ∷ v8 ∷ []))
+        (now (text .entry)) (now (words .entry)))
+        r (now (text .exit)) (now (words .exit)) ⌝ }
+{
+    let opening = opening_of(n, founders, third, v1, v2, v3, v4, v5, v6, v7, v8);
+    print_opening_into(opening, text, words)
+}
+
+// The line of an action.
+#[no_mangle]
+pub extern "C" fn hall_print_action(
+    k: u32,
+    r: u32,
+    a: u32,
+    b: u32,
+    text: &mut [u8],
+    words: &mut [u8],
+) -> u32
+    ensures { λ n. ⌜ Leaves (actionLent (wordsOf k r a b) (now (text .entry)) (now (words .entry)))
+        n (now (text .exit)) (now (words .exit)) ⌝ }
+{
+    print_action_into(k, r, a, b, text, words)
+}
+
+// What the line at an offset of a text says, and the offset after it.
+#[no_mangle]
+pub extern "C" fn hall_parse_line(text: &[u8], at: usize, words: &mut [u8]) -> u32
+    ensures { λ n. ⌜ Leaves (parseLent (now (text .entry)) at (now (words .entry)))
+        n (now (text .entry)) (now (words .exit)) ⌝ }
+{
+    parse_line_into(text, at, words)
 }

@@ -2,7 +2,7 @@
 // These functions are for the crates of this repository: a `requires` is met by each caller's proof.
 ghost use mathlib.Core.Path.{_≡_};
 ghost use mathlib.Core.List.{List};
-ghost use Prim.Native.Nat.{ℕ, _≤_, _*_};
+ghost use Prim.Native.Nat.{ℕ, _≤_, _*_, _/_, _%_, _^_};
 ghost use lib.ListN.{length};
 ghost use Rattle.calls.specs.Lent.{answerLength, withAnswer, taken, lentCall, Leaves};
 use codec::clear;
@@ -37,4 +37,21 @@ pub fn answer_into(out: &mut [u8], values: &[u32]) -> u32
     }
     put_values(out, values);
     0
+}
+
+// An offset of 64 bits is two words.
+const WORD: usize = 4294967296;
+
+// The low word of an offset.
+pub fn low(at: usize) -> u32
+    ensures { λ w. ⌜ w ≡ at % 2 ^ 32 ⌝ }
+{
+    (at % WORD) as u32
+}
+
+// The high word of an offset.
+pub fn high(at: usize) -> u32
+    ensures { λ w. ⌜ w ≡ at / 2 ^ 32 ⌝ }
+{
+    (at / WORD) as u32
 }

@@ -2,7 +2,7 @@
 // opening and its actions, and writing it.
 ghost use mathlib.Core.Path.{_≡_};
 ghost use mathlib.Core.List.{List};
-ghost use Prim.Native.Nat.{ℕ, _/_, _%_, _^_};
+ghost use Prim.Native.Nat.{ℕ};
 ghost use Rattle.base.specs.Chains.{_⨾_};
 ghost use Rattle.model.specs.RunFile.{writeFile};
 ghost use Rattle.runfile.specs.Answers.{fileOpening, runOf};
@@ -10,29 +10,14 @@ ghost use Rattle.calls.specs.Lent.{Leaves};
 ghost use Rattle.calls.specs.RunsLent.{runReadLent, runActionLent, runWriteLent, writtenWords};
 use lent::ANSWER;
 use lent::answer_into;
+use lent::high;
+use lent::low;
 use lent::put_values;
 use model::refusals;
 use runfile::FileOpening;
 use runfile::Next;
 use runfile::OpenRead;
 use runfile::Written;
-
-// An offset of 64 bits is two words.
-const WORD: usize = 4294967296;
-
-// The low word of an offset.
-fn low(at: usize) -> u32
-    ensures { λ w. ⌜ w ≡ at % 2 ^ 32 ⌝ }
-{
-    (at % WORD) as u32
-}
-
-// The high word of an offset.
-fn high(at: usize) -> u32
-    ensures { λ w. ⌜ w ≡ at / 2 ^ 32 ⌝ }
-{
-    (at / WORD) as u32
-}
 
 // The opening of a run file, written into a lent slice: N, the founders, the offset of the first action, how many actions
 // there are, the third word and the eight vote words.

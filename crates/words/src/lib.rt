@@ -31,7 +31,7 @@ pub enum Use {
 pub struct Uses(pub Use, pub Use, pub Use);
 
 // The table of kinds, the model's row by row. "Form view A with set B (R is 0)."
-fn uses_of(k: u32) -> Uses
+pub fn uses_of(k: u32) -> Uses
     requires { ⌜ 1 ≤ k ⌝ }
     requires { ⌜ k ≤ lastKind ⌝ }
     ensures { λ x. ⌜ usesOf x ≡ uses (kindAt k) ⌝ }

@@ -1,0 +1,4 @@
+pub mod FieldsLaws
+pub mod MembersLaws
+pub mod ActionLaws
+pub mod OpeningLaws

@@ -1,0 +1,2 @@
+pub mod FieldsAt
+pub mod ValuesAt

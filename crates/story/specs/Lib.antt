@@ -1,0 +1,9 @@
+pub mod Fields
+pub mod Numbers
+pub mod Sets
+pub mod Keywords
+pub mod Printing
+pub mod Parsing
+pub mod Stories
+pub mod Lent
+pub mod Cards
