@@ -455,6 +455,79 @@ static inline size_t hall_offset(const uint8_t *words, size_t i)
     return (size_t)((uint64_t)hall_word(words, i + 1) << 32 | hall_word(words, i));
 }
 
+/* Version of the interface: major * 1000000 + minor * 1000 + patch. */
+#define HALL_VERSION 3008000
+
+/* HALL_VERSION and HALL_LENGTH of the library that is linked: a program built with another header can tell. */
+uint32_t hall_version(void);
+uint32_t hall_length(void);
+
+/* 31 alone: whether the first HALL_LENGTH bytes are a hall's stored form. HALL_OK or 31. */
+uint32_t hall_check(const uint8_t *hall, size_t hall_len);
+
+/* Bytes of a listing: HALL_LISTING_LINE * (c + 2) suffice for a run of c actions, HALL_MAX_LISTING for any file. */
+#define HALL_LISTING_LINE 85
+#define HALL_MAX_LISTING 348160
+
+enum hall_listing_word { HALL_LISTING_LENGTH = 0 /* how many bytes it has */ };
+
+/*
+ * Writes the listing of a run file at the start of `text` (docs/listing.md), bytes after it stay, its length into `words`
+ * and the run's last hall into the first HALL_LENGTH bytes of `hall`. A file that is refused (19, 16, 41) has a listing of one
+ * line, and leaves the hall alone.
+ * Returns HALL_OK; or 18 if a slice is too short: `hall` for a file that is taken, `text`, `words`.
+ */
+uint32_t hall_run_list(const uint8_t *file, size_t file_len, uint8_t *hall, size_t hall_len, uint8_t *text, size_t text_len,
+                       uint8_t *words, size_t words_len);
+
+/*
+ * Text form of a run (docs/text-form.md): one opening or one action a line.
+ */
+
+/* Bytes of a line, its end included, that is printed, at most. */
+#define HALL_MAX_LINE 160
+
+enum hall_text_word { HALL_TEXT_LENGTH = 0 /* how many bytes the line has, its byte 10 included */ };
+
+/* The word that a line begins with: a kind's number (enum hall_kind) or one of these. */
+enum hall_first_word { HALL_FIRST_NONE = 0 /* no word of the text form */, HALL_FIRST_RAW = 254, HALL_FIRST_HALL = 255 };
+
+/* Words of a line that is read. */
+enum hall_line_word {
+    HALL_LINE_CASE = 0,      /* enum hall_line_case */
+    HALL_LINE_NEXT = 1,      /* offset after the line and its byte 10 */
+    HALL_LINE_NEXT_HIGH = 2, /* its high word */
+    HALL_LINE_FIRST = 3,     /* of HALL_LINE_WRONG: the word it begins with, enum hall_first_word or a kind */
+    HALL_LINE_K = 3,         /* of HALL_LINE_ACTION */
+    HALL_LINE_R = 4,
+    HALL_LINE_A = 5,
+    HALL_LINE_B = 6,
+    HALL_LINE_SIZE = 3,      /* of HALL_LINE_OPENING: N, founders, third word, eight votes (words 6 to 13) */
+    HALL_LINE_FOUNDERS = 4,
+    HALL_LINE_THIRD = 5,
+    HALL_LINE_VOTES = 6
+};
+enum hall_line_case {
+    HALL_LINE_BLANK = 0,   /* no word: empty, blanks, or a remark; also at or past the end of the text, where NEXT is the offset asked for */
+    HALL_LINE_OPENING = 1,
+    HALL_LINE_ACTION = 2,
+    HALL_LINE_WRONG = 3    /* no line of the text form */
+};
+
+/* Prints an opening (N, founders word, third word, votes v1 to v8) as a line at the start of `text`, its length into `words`.
+ * Returns HALL_OK; 16; 41; 19 if third is above 1; or 18 if `text` or `words` is too short. */
+uint32_t hall_print_opening(uint32_t n, uint32_t founders, uint32_t third, uint32_t v1, uint32_t v2, uint32_t v3, uint32_t v4,
+                            uint32_t v5, uint32_t v6, uint32_t v7, uint32_t v8, uint8_t *text, size_t text_len,
+                            uint8_t *words, size_t words_len);
+
+/* Prints an action, any four words, as a line. Returns HALL_OK; or 18 if `text` or `words` is too short. */
+uint32_t hall_print_action(uint32_t k, uint32_t r, uint32_t a, uint32_t b, uint8_t *text, size_t text_len, uint8_t *words,
+                           size_t words_len);
+
+/* Reads the line at an offset of a text: up to its byte 10 or the text's end. Nothing is judged beyond its form: N, recorders
+ * and view numbers may be any numbers below 2^32. Returns HALL_OK; or 18 if `words` is too short. */
+uint32_t hall_parse_line(const uint8_t *text, size_t text_len, size_t at, uint8_t *words, size_t words_len);
+
 #ifdef __cplusplus
 }
 #endif
