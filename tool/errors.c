@@ -21,6 +21,7 @@ enum status complain(const struct streams *io, enum status status, const char *f
     va_start(given, words);
     vsnprintf(text, sizeof text, words, given);
     va_end(given);
+    fflush(io->out); /* what was written before is seen before */
     put_clean(io->err, file);
     if (line != 0) {
         fprintf(io->err, ":%lu", line);

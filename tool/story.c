@@ -40,6 +40,18 @@ static const struct usage usages[] = {
     {"=", "= takes an answer as the listing has it: ok, entry, summary or from with its fields, or refused and a number"},
 };
 
+/* A field to be shown: the first bytes of a long one, a zero byte as a question
+ * mark. */
+static void show_field(struct field field, char words[MAX_WORDS])
+{
+    enum { SHOWN = 40 };
+    size_t length = field.length < SHOWN ? field.length : SHOWN;
+    for (size_t i = 0; i < length; i++) {
+        words[i] = field.at[i] == '\0' ? '?' : field.at[i];
+    }
+    snprintf(words + length, MAX_WORDS - length, "%s", field.length > SHOWN ? ".." : "");
+}
+
 /* Says why a line cannot be read. */
 static enum status wrong_line(const struct story *story, struct field first)
 {
@@ -48,8 +60,9 @@ static enum status wrong_line(const struct story *story, struct field first)
             return wrong(story, usages[i].takes);
         }
     }
-    return complain(story->io, STATUS_USAGE, story->run->name, story->line, "no line begins with the word %.*s%s",
-                    first.length > 40 ? 40 : (int)first.length, first.at, first.length > 40 ? ".." : "");
+    char word[MAX_WORDS];
+    show_field(first, word);
+    return complain(story->io, STATUS_USAGE, story->run->name, story->line, "no line begins with the word %s", word);
 }
 
 /* The kind whose word is followed by `all`, 0 if there is none. */
