@@ -7,16 +7,17 @@
 static int is_label(struct field field)
 {
     uint32_t number;
-    for (int part = 0; part < 3; part++) {
-        const char *dot = part < 2 ? memchr(field.at, '.', field.length) : field.at + field.length;
-        size_t length = dot ? (size_t)(dot - field.at) : 0;
-        if (!field_number((struct field){field.at, length}, &number)) {
-            return 0;
+    size_t from = 0, parts = 0;
+    for (size_t i = 0; i <= field.length; i++) {
+        if (i == field.length || field.at[i] == '.') {
+            if (!field_number((struct field){field.at + from, i - from}, &number)) {
+                return 0;
+            }
+            from = i + 1;
+            parts++;
         }
-        field.at += length + 1;
-        field.length -= length + (part < 2);
     }
-    return 1;
+    return parts == 3;
 }
 
 /* Whether fields are so many numbers. */
@@ -70,7 +71,7 @@ static void join_fields(const struct field *fields, size_t count, char words[MAX
 static void mark_asked(struct story *story)
 {
     if (story->last == LAST_SETTLE) {
-        story->run->notes[story->run->note_count - 1].asked = 1;
+        story->run->notes[story->settle].asked = 1;
     } else {
         story->run->asked[story->run->count - 1] = 1;
     }

@@ -6,10 +6,7 @@ enum status make_command(const struct streams *io, const struct options *options
     struct run run;
     enum status status = run_read_text(io, options->files[0], READ_PLAIN, &run);
     if (status == STATUS_FINE) {
-        status = write_bytes(io, options->output, run.file.at, run.file.length);
-    }
-    if (status == STATUS_FINE && run.failed) {
-        status = STATUS_DIFFERS;
+        status = run.failed ? STATUS_DIFFERS : write_bytes(io, options->output, run.file.at, run.file.length);
     }
     run_free(&run);
     return status;

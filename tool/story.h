@@ -14,7 +14,7 @@ struct view {
 enum last {
     LAST_NONE,   /* there is no action above */
     LAST_ACTION, /* the last action of the run */
-    LAST_SETTLE  /* a settle that was refused: the last note */
+    LAST_SETTLE  /* a settle that was refused */
 };
 
 /* A text that is being read. */
@@ -28,6 +28,7 @@ struct story {
     struct view views[HALL_MAX_VIEWS];
     size_t formed; /* how many views there are, the greatest number last */
     enum last last;
+    size_t settle;            /* of LAST_SETTLE: which note it is */
     char answered[MAX_WORDS]; /* its answer, as the listing has it */
     uint8_t hall[HALL_LENGTH];
     uint8_t settled[HALL_LENGTH]; /* the hall after a settle, to compare its steps with */

@@ -82,21 +82,23 @@ void take_all(struct story *story, uint32_t kind, const struct view *view)
     }
 }
 
+/* As many rounds of a kind as a view has members. */
+static void take_rounds(struct story *story, uint32_t kind, const struct view *view)
+{
+    for (uint32_t r = 1; r <= HALL_RECORDERS; r++) {
+        if (is_member(view->members, r)) {
+            take_all(story, kind, view);
+        }
+    }
+}
+
 void take_exchange(struct story *story, const struct view *view)
 {
     take_all(story, HALL_ENTER, view);
     take_all(story, HALL_SEND_SUMMARY, view);
     take_all(story, HALL_PLACE, view);
-    for (uint32_t r = 1; r <= HALL_RECORDERS; r++) {
-        if (is_member(view->members, r)) {
-            take_all(story, HALL_RECEIVE, view);
-        }
-    }
-    for (uint32_t r = 1; r <= HALL_RECORDERS; r++) {
-        if (is_member(view->members, r)) {
-            take_all(story, HALL_SAFE, view);
-        }
-    }
+    take_rounds(story, HALL_RECEIVE, view);
+    take_rounds(story, HALL_SAFE, view);
 }
 
 void take_log(struct story *story, uint32_t r, uint32_t value)
@@ -189,6 +191,7 @@ static enum status note_refused_settle(struct story *story, uint32_t number)
         return complain_memory(story->io, story->run->name);
     }
     story->last = LAST_SETTLE;
+    story->settle = story->run->note_count - 1;
     answer_listed(number, NULL, story->answered);
     return STATUS_FINE;
 }
