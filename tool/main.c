@@ -20,5 +20,5 @@ int main(int argc, char **argv)
     hold_place(1, O_RDONLY);
     hold_place(2, O_RDONLY);
     const struct streams io = {stdin, stdout, stderr};
-    return hall_main(argc, argv, &io);
+    return (int)hall_main(argc, argv, &io);
 }

@@ -7,32 +7,39 @@
 #include <inttypes.h>
 #include <stdlib.h>
 
+#define NO_OPENING "a text begins with an opening, such as: hall 3"
+
 static enum status wrong(const struct story *story, const char *words)
 {
     return complain(story->io, STATUS_USAGE, story->run->name, story->line, "%s", words);
 }
 
-/* -- Lines --------------------------------------------------------------- */
+/* -- Wrong lines --------------------------------------------------------- */
 
-/* What a line takes that begins with a word. */
+/* What a line of the text form takes, by the word that it begins with. */
+static const struct hall_name form_usages[] = {
+    {HALL_FIRST_HALL,
+     "hall takes a number of recorders, then founders and a set or whole, then votes and eight numbers"},
+    {HALL_SUBMIT, "submit takes a recorder and a value"},
+    {HALL_LABEL, "label takes a recorder"},
+    {HALL_SEND_ENTRY, "send takes a recorder"},
+    {HALL_SEND_SUMMARY, "summary takes a recorder"},
+    {HALL_FORM, "form takes a view number and a set such as {1,3}"},
+    {HALL_ENTER, "enter takes a recorder and a view number"},
+    {HALL_PLACE, "place takes a recorder and a view number"},
+    {HALL_RECEIVE, "receive takes a recorder, or all and a view number"},
+    {HALL_SAFE, "safe takes a recorder, or all and a view number"},
+    {HALL_CONFIRM, "confirm takes a recorder, or all and a view number"},
+    {HALL_DELIVER, "deliver takes a recorder, or all and a view number"},
+    {HALL_FIRST_RAW, "raw takes four numbers"},
+};
+
+/* The same of the words that the tool adds. */
 struct usage {
     const char *word, *takes;
 };
 
-static const struct usage usages[] = {
-    {"hall", "hall takes a number of recorders, then founders and a set or whole, then votes and eight numbers"},
-    {"submit", "submit takes a recorder and a value"},
-    {"label", "label takes a recorder"},
-    {"send", "send takes a recorder"},
-    {"summary", "summary takes a recorder"},
-    {"form", "form takes a view number and a set such as {1,3}"},
-    {"enter", "enter takes a recorder and a view number"},
-    {"place", "place takes a recorder and a view number"},
-    {"receive", "receive takes a recorder, or all and a view number"},
-    {"safe", "safe takes a recorder, or all and a view number"},
-    {"confirm", "confirm takes a recorder, or all and a view number"},
-    {"deliver", "deliver takes a recorder, or all and a view number"},
-    {"raw", "raw takes four numbers"},
+static const struct usage tool_usages[] = {
     {"log", "log takes a recorder and a value"},
     {"exchange", "exchange takes a view number"},
     {"settle", "settle takes nothing"},
@@ -53,28 +60,26 @@ static void show_field(struct field field, char words[MAX_WORDS])
 }
 
 /* Says why a line cannot be read. */
-static enum status wrong_line(const struct story *story, struct field first)
+static enum status wrong_line(const struct story *story, uint32_t first, struct field field)
 {
-    for (size_t i = 0; i < sizeof usages / sizeof usages[0]; i++) {
-        if (field_is(first, usages[i].word)) {
-            return wrong(story, usages[i].takes);
-        }
-    }
     char word[MAX_WORDS];
-    show_field(first, word);
+    const char *takes = hall_find_name(form_usages, sizeof form_usages / sizeof form_usages[0], first, NULL);
+    for (size_t i = 0; i < sizeof tool_usages / sizeof tool_usages[0] && !takes; i++) {
+        takes = field_is(field, tool_usages[i].word) ? tool_usages[i].takes : NULL;
+    }
+    if (takes) {
+        return wrong(story, takes);
+    }
+    show_field(field, word);
     return complain(story->io, STATUS_USAGE, story->run->name, story->line, "no line begins with the word %s", word);
 }
 
-/* The kind whose word is followed by `all`, 0 if there is none. */
-static uint32_t kind_for_all(struct field word)
+/* -- Words of the tool --------------------------------------------------- */
+
+/* Whether the word of a kind may be followed by `all`. */
+static int has_all(uint32_t kind)
 {
-    static const uint32_t kinds[] = {HALL_RECEIVE, HALL_SAFE, HALL_CONFIRM, HALL_DELIVER};
-    for (size_t i = 0; i < sizeof kinds / sizeof kinds[0]; i++) {
-        if (field_is(word, hall_kind_word(kinds[i]))) {
-            return kinds[i];
-        }
-    }
-    return 0;
+    return kind == HALL_RECEIVE || kind == HALL_SAFE || kind == HALL_CONFIRM || kind == HALL_DELIVER;
 }
 
 /* Takes `receive all V` and the like, or with kind 0 `exchange V`. */
@@ -99,12 +104,13 @@ static enum status take_show(struct story *story, uint32_t r)
     return run_add_note(story->run, note) ? STATUS_FINE : complain_memory(story->io, story->run->name);
 }
 
-/* Takes a line that is none of the text form: with a word of the tool, or wrong. */
-static enum status take_fields(struct story *story, const struct field *fields, size_t count)
+/* Takes a line that is none of the text form: with a word of the tool, or wrong.
+ * `first` is what the library says of its first word. */
+static enum status take_fields(struct story *story, uint32_t first, const struct field *fields, size_t count)
 {
-    uint32_t x, y, kind = kind_for_all(fields[0]);
-    if (kind != 0 && count == 3 && field_is(fields[1], "all") && field_number(fields[2], &x)) {
-        return take_in_view(story, kind, x);
+    uint32_t x, y;
+    if (has_all(first) && count == 3 && field_is(fields[1], "all") && field_number(fields[2], &x)) {
+        return take_in_view(story, first, x);
     }
     if (field_is(fields[0], "exchange") && count == 2 && field_number(fields[1], &x)) {
         return take_in_view(story, 0, x);
@@ -122,8 +128,10 @@ static enum status take_fields(struct story *story, const struct field *fields, 
     if (field_is(fields[0], "=") && count <= MAX_FIELDS && is_answer(fields + 1, count - 1)) {
         return take_ask(story, fields + 1, count - 1);
     }
-    return wrong_line(story, fields[0]);
+    return wrong_line(story, first, fields[0]);
 }
+
+/* -- Lines --------------------------------------------------------------- */
 
 /* Opens the hall as a line says. */
 static enum status take_opening(struct story *story, const uint8_t *words)
@@ -147,27 +155,35 @@ static enum status take_opening(struct story *story, const uint8_t *words)
     return STATUS_FINE;
 }
 
+/* Takes a line that the library does not read. */
+static enum status take_other(struct story *story, const uint8_t *line, size_t length, uint32_t first)
+{
+    struct field fields[MAX_FIELDS];
+    size_t count = split_fields(line, length, fields);
+    if (!story->is_open && first != HALL_FIRST_HALL) {
+        return wrong(story, NO_OPENING);
+    }
+    return count == 0 ? wrong(story, "not understood") : take_fields(story, first, fields, count);
+}
+
 /* Takes a line, of which the library has said what it is. */
 static enum status take_line(struct story *story, const uint8_t *line, size_t length, const uint8_t *words)
 {
-    struct field fields[MAX_FIELDS];
-    uint32_t line_case = hall_word(words, HALL_LINE_CASE);
-    if (line_case == HALL_LINE_BLANK) {
+    switch (hall_word(words, HALL_LINE_CASE)) {
+    case HALL_LINE_BLANK:
         return STATUS_FINE;
-    }
-    if (line_case == HALL_LINE_OPENING) {
+    case HALL_LINE_OPENING:
         return take_opening(story, words);
-    }
-    size_t count = line_case == HALL_LINE_WRONG ? split_fields(line, length, fields) : 0;
-    if (!story->is_open && !(count != 0 && field_is(fields[0], "hall"))) {
-        return wrong(story, "a text begins with an opening, such as: hall 3");
-    }
-    if (line_case == HALL_LINE_ACTION) {
+    case HALL_LINE_ACTION:
+        if (!story->is_open) {
+            return wrong(story, NO_OPENING);
+        }
         take_action(story, hall_word(words, HALL_LINE_K), hall_word(words, HALL_LINE_R), hall_word(words, HALL_LINE_A),
                     hall_word(words, HALL_LINE_B));
         return STATUS_FINE;
+    default:
+        return take_other(story, line, length, hall_word(words, HALL_LINE_FIRST));
     }
-    return count == 0 ? wrong(story, "not understood") : take_fields(story, fields, count);
 }
 
 static enum status take_lines(struct story *story, const struct bytes *text)
@@ -188,7 +204,7 @@ static enum status take_lines(struct story *story, const struct bytes *text)
     }
     if (status == STATUS_FINE && !story->is_open) {
         story->line = 0;
-        return wrong(story, "a text begins with an opening, such as: hall 3");
+        return wrong(story, NO_OPENING);
     }
     return status;
 }
