@@ -190,7 +190,7 @@ static enum status check_run(const struct streams *io, const struct run *run)
         check.broken = 1;
     }
     if (!check.broken) {
-        fputs("one common log; each sender's entries in order; what is confirmed stays\n", io->out);
+        fputs("all holds: one common log, each sender's entries in order, confirmed lists begin the orders\n", io->out);
     }
     return check.broken || run->failed ? STATUS_DIFFERS : STATUS_FINE;
 }
