@@ -38,6 +38,7 @@
  * Build: cc -Iinclude examples/group_page.c target/staticlib/libcapi.a
  */
 #include "hall.h"
+#include "hall_names.h"
 
 #include <errno.h>
 #include <inttypes.h>
@@ -72,122 +73,6 @@ struct run {
     uint8_t file[HALL_MAX_FILE];            /* room for the run file */
 };
 
-/* -- Words for a person -------------------------------------------------- */
-
-/* Why an action was refused, for the numbers whose reason depends on the kind. */
-static const char *reason_by_kind(uint32_t number, uint32_t kind)
-{
-    switch (number) {
-    case HALL_REFUSED_RECORDER:
-        return kind == HALL_FORM ? "forming a view names no recorder: the second number is 0"
-                                 : "the hall has no such recorder";
-    case HALL_REFUSED_TOO_MANY:
-        return kind == HALL_FORM ? "32 views are formed, and no more are taken"
-                                 : "64 entries are submitted, and no more are taken";
-    case HALL_REFUSED_PHASE:
-        switch (kind) {
-        case HALL_SEND_SUMMARY:
-            return "the recorder is in no group, or its summary is not due";
-        case HALL_LABEL:
-        case HALL_SEND_ENTRY:
-            return "the recorder is in no group, or its group has not yet exchanged summaries";
-        default:
-            return "the recorder is in no group";
-        }
-    case HALL_REFUSED_NOTHING:
-        switch (kind) {
-        case HALL_LABEL:
-            return "no entry waits at the recorder";
-        case HALL_SEND_ENTRY:
-            return "the recorder has no labelled entry to send";
-        case HALL_PLACE:
-            return "no message of the recorder is pending in this view";
-        case HALL_CONFIRM:
-            return "every entry of the recorder's log is confirmed";
-        case HALL_DELIVER:
-            return "every confirmed entry is reported";
-        default:
-            return "no further message is in the group's queue";
-        }
-    case HALL_REFUSED_NOT_YET:
-        switch (kind) {
-        case HALL_SAFE:
-            return "a member of the group has not received the message";
-        case HALL_CONFIRM:
-            return "the next entry is not yet safe at all members";
-        default:
-            return "the recorder does not know the entry";
-        }
-    case HALL_REFUSED_FULL:
-        switch (kind) {
-        case HALL_LABEL:
-            return "the recorder has no further label in this view, or its buffer is full";
-        case HALL_SEND_SUMMARY:
-            return "a summary was sent in this view, or too many messages are pending";
-        case HALL_SEND_ENTRY:
-            return "too many messages of the recorder are pending";
-        case HALL_PLACE:
-            return "the group's queue is full";
-        case HALL_RECEIVE:
-            return "the recorder's log is full";
-        default:
-            return "there is no room for one of its steps";
-        }
-    default:
-        return "the reason is not known to this program";
-    }
-}
-
-/* Why an opening, an action, a settle, a step back or a page was refused; kind is
- * 0 but for actions. */
-static const char *reason(uint32_t number, uint32_t kind)
-{
-    switch (number) {
-    case HALL_REFUSED_KIND:
-        return "there is no such action: kinds are 1 to 11";
-    case HALL_REFUSED_UNUSED:
-        return "a number that this action does not use is not 0";
-    case HALL_REFUSED_VIEW_NUMBER:
-        return "view numbers are 1 to 4294967295";
-    case HALL_REFUSED_SET:
-        return "the new view has no member, or one that the hall does not have";
-    case HALL_REFUSED_OPENING:
-        return "a hall has 1 to 8 recorders, and its founders are among them";
-    case HALL_REFUSED_VOTES:
-        return "votes are 0 to 1000, 0 for a recorder that the hall does not have, and not 0 for all";
-    case HALL_REFUSED_SHORT:
-        return "the memory lent is too short";
-    case HALL_REFUSED_BYTES:
-        return "the memory lent does not hold a hall";
-    case HALL_REFUSED_NOT_RISING:
-        return "a view with this number or a greater one is formed already";
-    case HALL_REFUSED_NOT_FORMED:
-        return "no view with this number is formed";
-    case HALL_REFUSED_NO_MEMBER:
-        return "the recorder is not a member of this view";
-    case HALL_REFUSED_NOT_ABOVE:
-        return "the recorder is in this view already, or in a later one";
-    case HALL_REFUSED_NOT_PRIMARY:
-        return "no view is formed, or the one with the greatest number is not primary";
-    case HALL_REFUSED_UNDO:
-        return "no action is left to take back: of those accepted up to 16 are held";
-    default:
-        return reason_by_kind(number, kind);
-    }
-}
-
-static const char *phase_words(uint32_t phase)
-{
-    switch (phase) {
-    case HALL_PHASE_NORMAL:
-        return "normal";
-    case HALL_PHASE_SEND:
-        return "send: its summary is due";
-    default:
-        return "collect: waiting for summaries";
-    }
-}
-
 /* -- The page ------------------------------------------------------------ */
 
 static int is_member(uint32_t set, uint32_t r)
@@ -218,6 +103,19 @@ static void print_group(const uint8_t *page)
         printf(" under number %" PRIu32, view);
     }
     printf(", margin %" PRId32 "\n", hall_signed(page, HALL_PAGE_MARGIN));
+}
+
+/* What a phase that is not normal waits for. */
+static const char *phase_remark(uint32_t phase)
+{
+    switch (phase) {
+    case HALL_PHASE_SEND:
+        return ": its summary is due";
+    case HALL_PHASE_COLLECT:
+        return ": waiting for summaries";
+    default:
+        return "";
+    }
 }
 
 static void print_highest(const uint8_t *page)
@@ -273,7 +171,8 @@ static uint32_t print_page(const uint8_t *hall, uint32_t r)
     uint32_t length = hall_word(page, HALL_PAGE_ORDER_LENGTH);
     printf("\nRecorder %" PRIu32 "\n", r);
     print_group(page);
-    printf("  phase            %s\n", phase_words(hall_word(page, HALL_PAGE_PHASE)));
+    uint32_t phase = hall_word(page, HALL_PAGE_PHASE);
+    printf("  phase            %s%s\n", hall_phase_name(phase), phase_remark(phase));
     print_highest(page);
     printf("  to be sent       %" PRIu32 "\n", hall_word(page, HALL_PAGE_BUFFER_LENGTH));
     printf("  common log       length %" PRIu32 ", confirmed %" PRIu32 ", reported %" PRIu32 "\n", length,
@@ -286,7 +185,7 @@ static int show_page(const uint8_t *hall, uint32_t r)
 {
     uint32_t number = print_page(hall, r);
     if (number != HALL_OK) {
-        printf("page of recorder %" PRIu32 " refused (%" PRIu32 "): %s\n", r, number, reason(number, 0));
+        printf("page of recorder %" PRIu32 " refused (%" PRIu32 "): %s\n", r, number, hall_refusal_text(number, 0));
     }
     return number == HALL_OK;
 }
@@ -405,7 +304,7 @@ static void take_action(struct run *run, const uint32_t *words, unsigned long at
     if (number != HALL_OK) {
         printf("line %lu: ", at);
         print_action(words);
-        printf(" refused (%" PRIu32 "): %s\n", number, reason(number, words[0]));
+        printf(" refused (%" PRIu32 "): %s\n", number, hall_refusal_text(number, words[0]));
     } else if (words[0] == HALL_FORM) {
         run->views[run->formed++] = (struct view){words[2], words[3]};
     }
@@ -467,7 +366,7 @@ static void take_settle(struct run *run, unsigned long at)
     uint32_t number =
         hall_settle_held(run->hall, HALL_LENGTH, run->undo, HALL_UNDO_LENGTH, answer, sizeof answer);
     if (number != HALL_OK) {
-        printf("line %lu: settle refused (%" PRIu32 "): %s\n", at, number, reason(number, 0));
+        printf("line %lu: settle refused (%" PRIu32 "): %s\n", at, number, hall_refusal_text(number, 0));
         return;
     }
     uint32_t count = hall_word(answer, HALL_SETTLE_COUNT);
@@ -495,7 +394,7 @@ static void take_back(struct run *run, unsigned long at)
     newest_held(run->undo, words);
     uint32_t number = hall_step_back(run->hall, HALL_LENGTH, run->undo, HALL_UNDO_LENGTH);
     if (number != HALL_OK) {
-        printf("line %lu: back refused (%" PRIu32 "): %s\n", at, number, reason(number, 0));
+        printf("line %lu: back refused (%" PRIu32 "): %s\n", at, number, hall_refusal_text(number, 0));
         return;
     }
     printf("line %lu: taken back: ", at);
@@ -630,7 +529,7 @@ static int write_record(struct run *run)
     }
     uint32_t number = make_record(run, words);
     if (number != HALL_OK) {
-        fprintf(stderr, "%s is not written (%" PRIu32 "): %s\n", run->record, number, reason(number, 0));
+        fprintf(stderr, "%s is not written (%" PRIu32 "): %s\n", run->record, number, hall_refusal_text(number, 0));
         return 0;
     }
     return write_file(run->record, run->file, hall_word(words, HALL_WRITTEN_LENGTH));
@@ -693,7 +592,7 @@ static int perform(struct run *run, uint32_t recorder)
 {
     uint32_t number = open_hall(run);
     if (number != HALL_OK) {
-        printf("opening refused (%" PRIu32 "): %s\n", number, reason(number, 0));
+        printf("opening refused (%" PRIu32 "): %s\n", number, hall_refusal_text(number, 0));
         return 0;
     }
     begin(run);

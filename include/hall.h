@@ -1,6 +1,7 @@
 /*
  * HL3 hall log: open a hall, perform an action, settle the hall, step back,
- * read a recorder's page, check a hall; read, write and list run files.
+ * read a recorder's page, check a hall; read, write and list run files, and
+ * print and read the lines of a run as text.
  *
  * A hall is HALL_LENGTH bytes that the caller owns and lends to each call;
  * docs/stored-form.md describes them. The library keeps nothing between calls
@@ -10,7 +11,7 @@
  * number of a refusal (enum hall_refusal). A refused call leaves every lent byte
  * as it was. Where several refusals fit, the first in the order 11, 31, 42, 43,
  * 12 to 16, 41, 32 to 40, 18 is given; 19, of run files alone, comes before 16 in
- * reading and after 41 in writing.
+ * reading and after 41 in writing and printing.
  *
  * A lent slice is a pointer and the number of bytes from there on.
  *  - It may be longer than needed: what lies past the first HALL_LENGTH bytes
@@ -496,6 +497,93 @@ enum hall_listing_word {
  */
 uint32_t hall_run_list(const uint8_t *file, size_t file_len, uint8_t *hall, size_t hall_len,
                        uint8_t *text, size_t text_len, uint8_t *words, size_t words_len);
+
+/*
+ * Text form of a run (docs/text-form.md): an opening or an action a line, such as
+ * `hall 3 founders {1,2}`, `submit 2 101`, `form 4 {1,3}`. Every run file has one
+ * text, and what is printed reads back.
+ */
+
+/* Bytes that suffice for a printed line. */
+#define HALL_MAX_LINE 160
+
+/* Words of a printed line. */
+enum hall_text_word {
+    HALL_TEXT_LENGTH = 0 /* how many bytes it has, its byte 10 among them */
+};
+
+/* What a line says. */
+enum hall_line_case {
+    HALL_LINE_BLANK = 0,   /* nothing: it is empty, or has blanks or a remark alone */
+    HALL_LINE_OPENING = 1, /* an opening: HALL_LINE_SIZE and on */
+    HALL_LINE_ACTION = 2,  /* an action: HALL_LINE_K and on */
+    HALL_LINE_WRONG = 3    /* it is no line of the text form: HALL_LINE_FIRST */
+};
+
+/* The word that a wrong line begins with: a kind (enum hall_kind) or one of these. */
+enum hall_first_word {
+    HALL_FIRST_NONE = 0, /* no word that begins a line */
+    HALL_FIRST_RAW = 254,
+    HALL_FIRST_HALL = 255
+};
+
+/* Words of a line that is read. */
+enum hall_line_word {
+    HALL_LINE_CASE = 0,
+    HALL_LINE_NEXT = 1,      /* offset after the line and its byte 10 */
+    HALL_LINE_NEXT_HIGH = 2, /* its high word */
+
+    /* An opening. */
+    HALL_LINE_SIZE = 3,     /* N, the number of recorders */
+    HALL_LINE_FOUNDERS = 4, /* the founders word, 0 for recorder 1 alone */
+    HALL_LINE_THIRD = 5,    /* 1 if votes are given, 0 for the built-in row */
+    HALL_LINE_VOTES = 6,    /* words 6 to 13: the votes of recorders 1 to 8, 0 if none are given */
+
+    /* An action: the words of a step. */
+    HALL_LINE_K = 3,
+    HALL_LINE_R = 4,
+    HALL_LINE_A = 5,
+    HALL_LINE_B = 6,
+
+    /* A wrong line. */
+    HALL_LINE_FIRST = 3 /* enum hall_first_word, or a kind */
+};
+
+/*
+ * Prints the line of an opening at the start of `text`, bytes after it stay, and
+ * its length into `words`. With `third` 1 it has the votes v1 to v8; with 0 these
+ * are not looked at.
+ *
+ * Returns HALL_OK; 16; 41; 19 if third is above 1; or 18 if text_len is below the
+ * line's length or words_len below HALL_ANSWER_LENGTH.
+ */
+uint32_t hall_print_opening(uint32_t n, uint32_t founders, uint32_t third, uint32_t v1, uint32_t v2,
+                            uint32_t v3, uint32_t v4, uint32_t v5, uint32_t v6, uint32_t v7,
+                            uint32_t v8, uint8_t *text, size_t text_len, uint8_t *words,
+                            size_t words_len);
+
+/*
+ * Prints the line of an action in the same way: that of its kind if the words
+ * that the kind does not use are 0 and a set is one of recorders 1 to 8, else
+ * `raw` and the four words.
+ *
+ * Returns HALL_OK; or 18 if text_len is below the line's length or words_len
+ * below HALL_ANSWER_LENGTH.
+ */
+uint32_t hall_print_action(uint32_t k, uint32_t r, uint32_t a, uint32_t b, uint8_t *text,
+                           size_t text_len, uint8_t *words, size_t words_len);
+
+/*
+ * Reads the line at an offset of a text, up to its byte 10 or the text's end, and
+ * the offset after it. At the text's end and past it there is a blank line of no
+ * length. Only the form of a line is judged: N, founders and votes are for
+ * hall_open or hall_run_write to refuse, the words of an action for hall_step.
+ * Any offset may be asked for, in any bytes.
+ *
+ * Returns HALL_OK; or 18 if words_len is below HALL_ANSWER_LENGTH.
+ */
+uint32_t hall_parse_line(const uint8_t *text, size_t text_len, size_t at, uint8_t *words,
+                         size_t words_len);
 
 #ifdef __cplusplus
 }
