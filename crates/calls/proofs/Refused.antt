@@ -155,7 +155,7 @@ lent-taken x before next out = go (eqb (lentNumber (x .number) out) 0) refl
 -- ## No refused call changes a byte
 
 -- a call into a lent slice leaves both slices, or returns 0
-lent-keeps : (x : Plain) (before next out : List ℕ)
+pub lent-keeps : (x : Plain) (before next out : List ℕ)
     → Keeps (lentCall x before next out .number) before (lentCall x before next out .bytes)
     × Keeps (lentCall x before next out .number) out (lentCall x before next out .answer)
 unfolding lentCall
@@ -183,7 +183,7 @@ settle-keeps b = go (settlingOn b)
     go (Settling.refused n) ne = refl
 
 -- a call that only reads its first slice
-only-read : (x : Plain) (b out : List ℕ) → lentCall x b b out .bytes ≡ b
+pub only-read : (x : Plain) (b out : List ℕ) → lentCall x b b out .bytes ≡ b
 unfolding lentCall
 only-read x b out = go (eqb (lentNumber (x .number) out) 0)
   where

@@ -1,19 +1,19 @@
 -- A printed line in a lent slice, and what a line says as words. Assumes nothing.
-use Prim.Native.Nat.{ℕ, _+_, _≤_, _<_}
+use Prim.Native.Nat.{ℕ, _≤_, _<_}
 use native.Mathlib.Omega.{arith}
-use mathlib.Core.Path.{_≡_, refl, sym, ap, ap₂, subst, _∙_}
+use mathlib.Core.Path.{_≡_, sym, ap, subst, _∙_}
 use mathlib.Core.Bool.{true, false}
 use mathlib.Core.List.{List, [], _∷_}
 use lib.Dec.{eqb, ltb}
 use lib.ListN.{length, take}
 use lib.Seq.{sets}
-use borrow.Author.Tests.{eqb-true, eqb-false, lt-ltb, le-ltb, eq-eqb}
+use borrow.Author.Tests.{eqb-false, lt-ltb, le-ltb}
 use Rattle.base.specs.Chains.{refuse, _⨾_}
 use Rattle.base.proofs.Bools.{by-cases}
 use Rattle.base.proofs.ChainsLaws.{first-refuses, first-passes}
 use Rattle.model.specs.Answers.{Plain}
 use Rattle.model.specs.RunFile.{FileOpening}
-use Rattle.calls.specs.Lent.{answerLength, withAnswer, Lent, lentCall, Leaves}
+use Rattle.calls.specs.Lent.{answerLength, withAnswer, Lent, Leaves}
 use Rattle.calls.proofs.Refused.{lent-refused, lent-short, lent-done}
 use Rattle.story.specs.Printing.{openingText, tellRefusal}
 use Rattle.story.specs.Lent.{printLent}

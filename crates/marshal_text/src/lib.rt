@@ -59,12 +59,14 @@ fn put_line(x: Printed, text: &mut [u8], out: &mut [u8]) -> u32
     if text.len() < len {
         return refusals::SHORT;
     }
-    if out.len() < ANSWER {
+    let room = out.len();
+    if room < ANSWER {
         return refusals::SHORT;
     }
     let line = x.bytes;
     put_bytes(text, 0, &line, len);
-    let values = [len as u32];
+    let size = len as u32;
+    let values = [size];
     put_values(out, &values);
     0
 }

@@ -1,5 +1,5 @@
 -- Words taken off a line one after another, and what they come to. Assumes nothing.
-use Prim.Native.Nat.{ℕ, zero, suc, _+_, _-_, _≤_, _<_, min}
+use Prim.Native.Nat.{ℕ, zero, suc, _-_, _≤_, _<_, min}
 use native.Mathlib.Omega.{arith}
 use native.Mathlib.Nat.{min-eq-left, min-eq-right}
 use mathlib.Core.Path.{_≡_, refl, sym, ap, ap₂, subst, _∙_}
@@ -13,13 +13,12 @@ use Rattle.base.specs.Numbers.{within}
 use Rattle.base.proofs.Bools.{by-cases, and-true, not-both}
 use Rattle.base.proofs.NumbersLaws.{within-both}
 use Rattle.codec.specs.Bytes.{part, sameBytes}
-use Rattle.model.specs.Kinds.{Kind, kind, noKind, kinds, lastKind, kindOf, Uses, uses}
+use Rattle.model.specs.Kinds.{Kind, noKind, kinds, lastKind, kindOf, Uses, uses}
 use Rattle.model.proofs.KindLaws.{names-kind, past-last}
 use Rattle.model.specs.Call.{Words, wordsOf}
 use Rattle.words.specs.Words.{kindAt}
-use Rattle.runfile.specs.Answers.{actionWords, voteWords, fileOpening}
-use Rattle.runfile.specs.declared.FileOpening.{FileOpening}
-use Rattle.story.specs.Fields.{fieldsIn, firstField, lineLength}
+use Rattle.runfile.specs.Answers.{actionWords, voteWords}
+use Rattle.story.specs.Fields.{fieldsIn, firstField}
 use Rattle.story.specs.Numbers as numbers
 use Rattle.story.specs.Numbers.{numberOf}
 use Rattle.story.specs.Sets.{setOf}

@@ -105,7 +105,7 @@ module _ (o : FileOpening) where
           ∙ ap (λ (l : List ℕ). numberText (o .size) ++ (l ++ (10 ∷ []))) (spaced-append fs vs)
           ∙ ap (λ (l : List ℕ). numberText (o .size) ++ l) (append-assoc founders votes (10 ∷ []))
 
-  pub opening-short : o .size < 2 ^ 32 → Each (λ (w : ℕ). w < 2 ^ 32) (o .words) → length (o .words) ≡ 8 → length (openingText o) ≤ 138
+  pub opening-short : o .size < 2 ^ 32 → Each (λ (w : ℕ). w < 2 ^ 32) (o .words) → length (o .words) ≡ 8 → length (openingText o) ≤ 160
   unfolding hall-word
   opening-short hn hw eight =
       omega (

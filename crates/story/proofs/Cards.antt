@@ -5,6 +5,6 @@ use Rattle.model.proofs.Computing.{computing}
 use Rattle.story.specs.Cards.{exampleText, looseText, wrongLines, wrongNumbers, rightLines, rightReadings, Cards}
 use Rattle.story.proofs.Computing as own
 
-pub cards : Cards
+pub story-cards : Cards
 unfolding computing own.computing listingRun upToConfirm exampleText looseText wrongLines wrongNumbers rightLines rightReadings
-cards = record { told = refl; read = refl; loose = refl; right = refl; none = refl }
+story-cards = record { told = refl; read = refl; loose = refl; right = refl; none = refl }

@@ -12,3 +12,4 @@ pub mod RangesLaws
 pub mod FilesLaws
 pub mod Theorems
 pub mod Cards
+pub mod Refused

@@ -6,4 +6,5 @@ pub mod Printing
 pub mod Parsing
 pub mod Stories
 pub mod Lent
+pub mod Kept
 pub mod Cards

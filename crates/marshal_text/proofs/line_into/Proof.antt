@@ -1,8 +1,8 @@
 -- By cases. Assumes nothing.
-use mathlib.Core.Path.{_≡_, refl, sym, ap, ap₂, _∙_}
+use mathlib.Core.Path.{sym, ap, ap₂, _∙_}
 use denote.Ref.{now}
 use Prim.Native.Nat.{ℕ}
-use mathlib.Core.List.{List, [], _∷_}
+use mathlib.Core.List.{[], _∷_}
 use Rattle.calls.specs.Lent.{taken}
 use Rattle.calls.specs.RunsLent.{offsetWords}
 use Rattle.lent.proofs.Plain.{leaves-as}
@@ -12,9 +12,6 @@ use Rattle.parsing.specs.declared.Line.{Line}
 use borrow.Author.Needs.{needs}
 use Rattle.marshal_text.proofs.line_into.Statement.{statement}
 use Rattle.marshal_text.proofs.line_into.Tie as tie
-use Rattle.lent.proofs.answer_into.Reads as answer-into-reads
-use Rattle.lent.proofs.high.Reads as high-reads
-use Rattle.lent.proofs.low.Reads as low-reads
 
 enum-told : tie.Need-enum-told
 enum-told c = search needs

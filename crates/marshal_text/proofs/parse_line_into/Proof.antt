@@ -1,5 +1,5 @@
 -- Assumes nothing.
-use mathlib.Core.Path.{_≡_, refl, sym, ap, ap₂, _∙_}
+use mathlib.Core.Path.{ap₂}
 use denote.Ref.{now}
 use Prim.Native.Nat.{ℕ}
 use Rattle.calls.specs.Lent.{taken}
@@ -9,7 +9,6 @@ use Rattle.story.specs.Lent.{lineWords, parseLent}
 use borrow.Author.Needs.{needs}
 use Rattle.marshal_text.proofs.parse_line_into.Statement.{statement}
 use Rattle.marshal_text.proofs.parse_line_into.Tie as tie
-use Rattle.parsing.proofs.parse_line.Reads as parse-line-reads
 
 parse-line-requires : tie.Need-parse-line-requires
 parse-line-requires c κs = search needs

@@ -4,7 +4,6 @@ use Rattle.printing.proofs.FieldsLaws.{printed-fits}
 use borrow.Author.Needs.{needs}
 use Rattle.marshal_text.proofs.print_action_into.Statement.{statement}
 use Rattle.marshal_text.proofs.print_action_into.Tie as tie
-use Rattle.printing.proofs.print_action.Reads as print-action-reads
 
 print-action-requires : tie.Need-print-action-requires
 print-action-requires c κs = search needs

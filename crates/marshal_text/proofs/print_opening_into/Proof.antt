@@ -7,7 +7,6 @@ use Rattle.marshal_text.proofs.LineLaws.{opening-leaves}
 use borrow.Author.Needs.{needs}
 use Rattle.marshal_text.proofs.print_opening_into.Statement.{statement}
 use Rattle.marshal_text.proofs.print_opening_into.Tie as tie
-use Rattle.printing.proofs.print_opening.Reads as print-opening-reads
 
 print-opening-requires : tie.Need-print-opening-requires
 print-opening-requires c κs = search needs

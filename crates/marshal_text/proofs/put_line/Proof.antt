@@ -7,8 +7,6 @@ use Rattle.marshal_text.proofs.LineLaws.{print-refused, print-no-text, 
 use borrow.Author.Needs.{needs}
 use Rattle.marshal_text.proofs.put_line.Statement.{statement}
 use Rattle.marshal_text.proofs.put_line.Tie as tie
-use Rattle.codec.proofs.put_bytes.Reads as put-bytes-reads
-use Rattle.lent.proofs.put_values.Reads as put-values-reads
 
 returns : tie.Need-returns
 returns c = λ why t p. print-refused why t (now (c .before .before .before .before .args .text)) (now (c .before .before .before .before .args .out)) (c .before .before .before .before .args .x) p (c .if1 .taken)
@@ -26,8 +24,8 @@ slice-aggregate-put-bytes c = search needs
 put-bytes-requires : tie.Need-put-bytes-requires
 put-bytes-requires c κs = search needs
 
-cast-t14 : tie.Need-cast-t14
-cast-t14 c =
+cast-size : tie.Need-cast-size
+cast-size c =
     let most : length (c .before .before .before .before .before .before .before .before .before .before .before .before .args .x .bytes) ≡ 160 = search needs in
     omega arith
 
@@ -57,7 +55,7 @@ put-line-spec =
     returns-3
     slice-aggregate-put-bytes
     put-bytes-requires
-    cast-t14
+    cast-size
     slice-aggregate-put-values
     put-values-requires
     same-length

@@ -1,5 +1,4 @@
 -- Assumes nothing.
-use mathlib.Core.Path.{_≡_, refl, sym, ap, _∙_}
 use Rattle.parsing.specs.Reading.{actionIf, lineMeaning}
 use Rattle.parsing.proofs.action_line.Statement.{statement}
 use Rattle.parsing.proofs.action_line.Tie as tie

@@ -1,10 +1,10 @@
 -- The whole hall, or a set. Assumes nothing.
-use mathlib.Core.Path.{_≡_, refl, sym, ap, _∙_}
+use mathlib.Core.Path.{_≡_, sym, ap, _∙_}
 use denote.Ref.{now}
 use native.Mathlib.Omega.{arith}
 use mathlib.Core.Logic.{⊎-elim}
-use mathlib.Core.Bool.{true, not, _&&_}
-use Prim.Native.Nat.{ℕ, min}
+use mathlib.Core.Bool.{not, _&&_}
+use Prim.Native.Nat.{min}
 use lib.Dec.{eqb}
 use Rattle.story.specs.Numbers as numbers
 use Rattle.story.specs.Keywords.{whole-word}
@@ -13,7 +13,6 @@ use Rattle.parsing.proofs.LinesAt.{whole-founders, set-founders, least-
 use borrow.Author.Needs.{needs}
 use Rattle.parsing.proofs.founders_of.Statement.{statement}
 use Rattle.parsing.proofs.founders_of.Tie as tie
-use Rattle.quorum.proofs.all_of.Reads as all-of-reads
 
 slice-aggregate-is-word : tie.Need-slice-aggregate-is-word
 slice-aggregate-is-word c = search needs

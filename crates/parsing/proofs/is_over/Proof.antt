@@ -1,5 +1,5 @@
 -- Assumes nothing.
-use mathlib.Core.Path.{_≡_, refl, sym, ap, _∙_}
+use mathlib.Core.Path.{sym}
 use borrow.Author.Needs.{needs}
 use Rattle.parsing.proofs.is_over.Statement.{statement}
 use Rattle.parsing.proofs.is_over.Tie as tie

@@ -1,5 +1,5 @@
 -- The words of a kind, by its uses. Assumes nothing.
-use mathlib.Core.Path.{_≡_, refl, sym, ap, _∙_}
+use mathlib.Core.Path.{ap, _∙_}
 use denote.Ref.{now}
 use Rattle.words.specs.Words.{usesOf}
 use Rattle.story.specs.Parsing.{kindLine}
@@ -10,7 +10,6 @@ use Rattle.parsing.proofs.LinesAt.{kind-line}
 use borrow.Author.Needs.{needs}
 use Rattle.parsing.proofs.kind_line.Statement.{statement}
 use Rattle.parsing.proofs.kind_line.Tie as tie
-use Rattle.words.proofs.uses_of.Reads as uses-of-reads
 
 uses-of-requires : tie.Need-uses-of-requires
 uses-of-requires c κs = search needs

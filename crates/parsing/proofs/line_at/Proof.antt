@@ -1,11 +1,7 @@
 -- By the first field. Assumes nothing.
-use mathlib.Core.Path.{_≡_, refl, sym, ap, _∙_}
-use denote.Ref.{now}
-use Prim.Native.Nat.{ℕ}
+use mathlib.Core.Path.{sym, ap, _∙_}
 use mathlib.Core.Path.{ap₂}
 use borrow.Author.Tests.{eq-eqb, ne-eqb}
-use mathlib.Core.List.{List}
-use lib.ListN.{drop}
 use Rattle.parsing.specs.Reading.{lineMeaning}
 use Rattle.story.specs.Parsing.{lineFrom}
 use Rattle.story.specs.Keywords.{wordNumber}

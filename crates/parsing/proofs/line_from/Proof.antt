@@ -1,16 +1,11 @@
 -- By the first word's number. Assumes nothing.
-use mathlib.Core.Path.{_≡_, refl, sym, ap, _∙_}
-use denote.Ref.{now}
-use native.Mathlib.Omega.{arith}
-use borrow.Author.Tests.{not-true, not-false}
-use Rattle.base.proofs.NumbersLaws.{within-both}
+use mathlib.Core.Path.{sym, _∙_}
 use Rattle.parsing.specs.Reading.{lineMeaning}
 use Rattle.model.specs.Kinds.{kinds, lastKind}
 use Rattle.parsing.proofs.LinesAt.{line-hall, line-raw, line-kind, line-none, no-kind, kind-range}
 use borrow.Author.Needs.{needs}
 use Rattle.parsing.proofs.line_from.Statement.{statement}
 use Rattle.parsing.proofs.line_from.Tie as tie
-use Rattle.words.proofs.is_outside.Reads as is-outside-reads
 
 opening-line-requires : tie.Need-opening-line-requires
 opening-line-requires c κs = search needs

@@ -1,5 +1,4 @@
 -- Assumes nothing.
-use mathlib.Core.Path.{_≡_, refl, sym, ap, _∙_}
 use Rattle.parsing.specs.Reading.{openingIf, lineMeaning}
 use Rattle.parsing.proofs.opening_if.Statement.{statement}
 use Rattle.parsing.proofs.opening_if.Tie as tie

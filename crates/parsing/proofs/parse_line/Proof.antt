@@ -1,10 +1,7 @@
 -- Assumes nothing.
-use mathlib.Core.Path.{_≡_, refl, sym, ap, _∙_}
+use mathlib.Core.Path.{sym, ap, _∙_}
 use denote.Ref.{now}
 use native.Mathlib.Omega.{arith}
-use Prim.Native.Nat.{ℕ, _+_}
-use mathlib.Core.List.{List}
-use Rattle.story.specs.Fields.{lineLength}
 use Rattle.story.specs.Parsing.{lineOf}
 use Rattle.parsing.specs.Reading.{lineMeaning}
 use Rattle.scanning.proofs.FieldsAt.{drop-past, line-past}

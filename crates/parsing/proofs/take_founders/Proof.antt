@@ -1,5 +1,5 @@
 -- By the first field. Assumes nothing.
-use mathlib.Core.Path.{_≡_, refl, sym, ap, _∙_}
+use mathlib.Core.Path.{sym, ap, _∙_}
 use denote.Ref.{now}
 use Rattle.story.specs.Keywords.{founders-word}
 use Rattle.codec.specs.Bytes.{sameBytes}

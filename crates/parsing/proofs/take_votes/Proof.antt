@@ -1,6 +1,5 @@
 -- By the first field. Assumes nothing.
-use mathlib.Core.Path.{_≡_, refl, sym, ap, _∙_}
-use denote.Ref.{now}
+use mathlib.Core.Path.{refl, sym, ap, _∙_}
 use Rattle.story.specs.Keywords.{votes-word}
 use Rattle.codec.specs.Bytes.{sameBytes}
 use Rattle.story.specs.Parsing.{takeEight}

@@ -1,5 +1,4 @@
 -- By the use of the word. Assumes nothing.
-use mathlib.Core.Path.{_≡_, refl, sym, ap, _∙_}
 use denote.Ref.{now}
 use Rattle.words.specs.Words.{useOf}
 use Rattle.story.specs.Parsing.{takeWord}

@@ -1,6 +1,6 @@
 use Rattle.scanning.proofs.ValuesAt.{closed-yes, closed-no}
 -- Assumes nothing.
-use mathlib.Core.Path.{_≡_, refl, sym, ap, _∙_}
+use mathlib.Core.Path.{sym, _∙_}
 use borrow.Author.Needs.{needs}
 use Rattle.scanning.proofs.closed.Statement.{statement}
 use Rattle.scanning.proofs.closed.Tie as tie

@@ -1,7 +1,6 @@
 -- A byte that is no digit, or a digit: then the sum decides. Assumes nothing.
 use mathlib.Core.Path.{sym}
 use Rattle.scanning.proofs.ValuesAt.{goes-low, goes-high, goes-digit}
-use native.Mathlib.Omega.{arith}
 use borrow.Author.Needs.{needs}
 use Rattle.scanning.proofs.goes_on.Statement.{statement}
 use Rattle.scanning.proofs.goes_on.Tie as tie

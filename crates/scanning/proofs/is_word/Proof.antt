@@ -1,5 +1,5 @@
 -- Words of different lengths differ. Assumes nothing.
-use mathlib.Core.Path.{_≡_, refl, sym, ap, _∙_}
+use mathlib.Core.Path.{sym, _∙_}
 use denote.Ref.{now}
 use mathlib.Core.Path.{ap₂}
 use lib.Seq.{take-all}
@@ -10,7 +10,6 @@ use Rattle.scanning.proofs.ValuesAt.{other-length}
 use borrow.Author.Needs.{needs}
 use Rattle.scanning.proofs.is_word.Statement.{statement}
 use Rattle.scanning.proofs.is_word.Tie as tie
-use Rattle.codec.proofs.same.Reads as same-reads
 
 returns : tie.Need-returns
 returns c = sym (other-length (now (c .before .before .before .args .word)) (now (c .before .before .before .args .field)) (c .if1 .taken))

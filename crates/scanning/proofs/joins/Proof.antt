@@ -1,12 +1,10 @@
 -- A byte that is no recorder, or one: then the set decides. Assumes nothing.
-use native.Mathlib.Omega.{arith}
-use mathlib.Core.Path.{_≡_, refl, sym, ap, _∙_}
+use mathlib.Core.Path.{sym, ap, _∙_}
 use mathlib.Core.Bool.{not}
 use Rattle.scanning.proofs.ValuesAt.{joins-low, joins-high, joins-digit}
 use borrow.Author.Needs.{needs}
 use Rattle.scanning.proofs.joins.Statement.{statement}
 use Rattle.scanning.proofs.joins.Tie as tie
-use Rattle.quorum.proofs.in_mask.Reads as in-mask-reads
 
 returns : tie.Need-returns
 returns c = sym (joins-low (c .before .args .mask) (c .before .args .b) (search needs))

@@ -1,4 +1,4 @@
-use mathlib.Core.Path.{_≡_, refl, sym, ap, _∙_}
+use mathlib.Core.Path.{_∙_}
 use Rattle.scanning.proofs.ValuesAt.{pick-word}
 -- Assumes nothing.
 use Rattle.story.specs.Keywords.{place-word, receive-word, safe-word, confirm-word, deliver-word}

@@ -1,4 +1,4 @@
-use mathlib.Core.Path.{_≡_, refl, sym, ap, _∙_}
+use mathlib.Core.Path.{refl, _∙_}
 use Rattle.scanning.proofs.ValuesAt.{pick-word}
 -- Assumes nothing.
 use Rattle.model.specs.Listing.{hall-word}

@@ -1,5 +1,4 @@
 -- Assumes nothing.
-use mathlib.Core.Path.{sym}
 use Rattle.scanning.specs.Scanned.{chosen}
 use Rattle.scanning.proofs.pick.Statement.{statement}
 use Rattle.scanning.proofs.pick.Tie as tie

@@ -1,5 +1,5 @@
 -- By its length and its first byte. Assumes nothing.
-use mathlib.Core.Path.{_≡_, refl, sym, ap, _∙_}
+use mathlib.Core.Path.{sym, _∙_}
 use denote.Ref.{now}
 use borrow.Author.Tests.{eq-eqb, ne-eqb}
 use Rattle.scanning.proofs.ValuesAt.{set-short, set-unopened, set-two, set-more}

@@ -1,7 +1,6 @@
 -- The set stays one of recorders 1 to 8. Assumes nothing.
 use native.Mathlib.Omega.{arith}
-use mathlib.Core.Path.{_≡_, refl, sym, ap, _∙_}
-use Prim.Native.Nat.{ℕ, _+_, _-_, _≤_}
+use Prim.Native.Nat.{_-_}
 use Rattle.quorum.proofs.SetLaws.{one-shifted}
 use Rattle.story.proofs.SetsLaws.{member-small}
 use Rattle.scanning.proofs.ValuesAt.{joins-range}

@@ -1,4 +1,4 @@
-use mathlib.Core.Path.{_≡_, refl, sym, ap, _∙_}
+use mathlib.Core.Path.{sym, _∙_}
 use Rattle.scanning.proofs.ValuesAt.{pick-word, word-number}
 -- Assumes nothing.
 use denote.Ref.{now}
