@@ -30,7 +30,7 @@ use words::Use;
 use words::Uses;
 use words::uses_of;
 
-// -- Fields taken one after another ------------------------------------------
+// ## Fields taken one after another
 
 // A word taken off a line: whether it has its form, its number, and the offset after it.
 struct Taken {
@@ -126,7 +126,7 @@ fn is_over(text: &[u8], at: usize) -> bool
     from == f.to
 }
 
-// -- Lines -------------------------------------------------------------------
+// ## Lines
 
 // What a line says: nothing, an opening, an action, or no line of the text form, with the number of its first word.
 pub enum Line {

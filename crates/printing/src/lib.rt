@@ -141,6 +141,7 @@ fn put_args(out: &mut [u8], at: usize, k: u32, r: u32, a: u32, b: u32) -> usize
     put_arg(out, after_a, of_b, b)
 }
 
+// The word of a kind.
 fn put_kind_word(out: &mut [u8], at: usize, k: u32) -> usize
     requires { ⌜ (1 ≤ k) × (k ≤ lastKind) ⌝ }
     requires { ⌜ Room (now out) at (kindWord k) ⌝ }
@@ -162,7 +163,7 @@ fn put_kind_word(out: &mut [u8], at: usize, k: u32) -> usize
     }
 }
 
-// "`submit 2 101`, `form 4 {1,3}`": the word of the kind, and the words that it uses.
+// The word of the kind, and the words that it uses: `submit 2 101`, `form 4 {1,3}`.
 fn put_kind_line(out: &mut [u8], at: usize, k: u32, r: u32, a: u32, b: u32) -> usize
     requires { ⌜ (1 ≤ k) × (k ≤ lastKind) ⌝ }
     requires { ⌜ Room (now out) at (kindText (wordsOf k r a b)) ⌝ }
@@ -184,7 +185,7 @@ fn put_four(out: &mut [u8], at: usize, w: u32, x: u32, y: u32, z: u32) -> usize
     put_number(out, c, z)
 }
 
-// "`raw 12 9 0 0` for any four words"
+// Any four words: `raw 12 9 0 0`.
 fn put_raw_line(out: &mut [u8], at: usize, k: u32, r: u32, a: u32, b: u32) -> usize
     requires { ⌜ Room (now out) at (rawText (wordsOf k r a b)) ⌝ }
     ensures { λ x. ⌜ Wrote (now (out .entry)) at (rawText (wordsOf k r a b)) (now (out .exit)) x ⌝ }
@@ -206,6 +207,7 @@ fn put_action(out: &mut [u8], at: usize, k: u32, r: u32, a: u32, b: u32) -> usiz
     }
 }
 
+// The line of an action.
 pub fn print_action(k: u32, r: u32, a: u32, b: u32) -> Printed
     ensures { λ x. ⌜ Prints 0 (actionText (wordsOf k r a b)) x ⌝ }
 {
@@ -249,7 +251,7 @@ fn put_votes(out: &mut [u8], at: usize, third: u32, v: Votes) -> usize
     put_four(out, b, v.v5, v.v6, v.v7, v.v8)
 }
 
-// "`hall 3 founders {1,2}`"
+// An opening's line: `hall 3 founders {1,2}`.
 fn put_opening(out: &mut [u8], at: usize, o: FileOpening) -> usize
     requires { ⌜ o .size ≤ 8 ⌝ }
     requires { ⌜ Room (now out) at (openingText (fileOpening o)) ⌝ }
@@ -269,6 +271,7 @@ fn tell_refusal(o: FileOpening) -> u32
     first(refused_opening(o), refusal(1 < o.third, refusals::FILE))
 }
 
+// The line of an opening; or the number of its refusal, and nothing.
 pub fn print_opening(o: FileOpening) -> Printed
     ensures { λ x. ⌜ Prints (tellRefusal (fileOpening o)) (toldText (fileOpening o)) x ⌝ }
 {

@@ -12,7 +12,7 @@ ghost use Rattle.story.specs.Keywords.{wordNumber};
 ghost use Rattle.scanning.specs.Scanned.{Skips, Ends, Spans, chosen, valueOf, closedBy, otherWord, lateWord};
 use model::kinds;
 
-// -- Fields ------------------------------------------------------------------
+// ## Fields
 
 const NEWLINE: u8 = 10;
 
@@ -98,7 +98,7 @@ pub fn next_field(text: &[u8], at: usize) -> Span
     Span { from, to }
 }
 
-// -- Values ------------------------------------------------------------------
+// ## Values
 
 // What a field is read as: whether it has the form asked for, and its number, else 0.
 pub struct Value {
@@ -242,7 +242,7 @@ pub fn set_of(field: &[u8]) -> Value
     members_of(field)
 }
 
-// -- Words -------------------------------------------------------------------
+// ## Words
 
 // Is a field this word?
 pub fn is_word(field: &[u8], word: &[u8]) -> bool

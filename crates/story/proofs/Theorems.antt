@@ -4,11 +4,11 @@ use Rattle.story.proofs.StoriesLaws.{run-back}
 use Rattle.story.proofs.RangesLaws.{read-tellable}
 use Rattle.story.proofs.FilesLaws.{file-tellable}
 
--- "parsing what is printed gives the run back"
+-- what is printed of a run reads back as that run
 pub tells-back : TellsBack
 tells-back = record { back = run-back }
 
--- "what a text parses to, printed and parsed again, is the same run"
+-- what a text reads as, printed and read again, is the same run
 pub tells-again : TellsAgain
 tells-again = record { again = λ bs x e. run-back x (read-tellable bs x e) }
 

@@ -1,4 +1,4 @@
--- What a line says.
+-- What a line says (docs/text-form.md).
 -- Assumes nothing.
 use Prim.Native.Nat.{ℕ, min}
 use mathlib.Core.Bool.{Bool, true, false, not, _&&_}

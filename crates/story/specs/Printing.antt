@@ -1,4 +1,4 @@
--- How an opening and an action are told: one line each.
+-- How an opening and an action are told: one line each (docs/text-form.md).
 -- Assumes nothing.
 use Prim.Native.Nat.{ℕ, _-_, _^_}
 use mathlib.Core.Bool.{Bool, true, false, _&&_}
@@ -47,7 +47,7 @@ kindFields w =
       | noKind ↦ []
     ]
 
--- "`raw 12 9 0 0` for any four words"
+-- any four words, after `raw`
 unfoldable pub rawFields : Words → List (List ℕ)
 rawFields w = decimal (w .k) ∷ decimal (w .r) ∷ decimal (w .a) ∷ decimal (w .b) ∷ []
 

@@ -97,11 +97,11 @@ pub record Tellable (x : RunText) : Type 0 where
   pub unvoted : hasVotes (x .opening .third) ≡ false → x .opening .words ≡ replicate 8 0
   pub words : Each InWords (x .actions)
 
--- "parsing what is printed gives the run back"
+-- what is printed of a run reads back as that run
 pub record TellsBack : Type 1 where
   pub back : (x : RunText) → Tellable x → readStory (storyOf x) ≡ run x
 
--- "what a text parses to, printed and parsed again, is the same run"
+-- what a text reads as, printed and read again, is the same run
 pub record TellsAgain : Type 1 where
   pub again : (bs : List ℕ) (x : RunText) → readStory bs ≡ run x → readStory (storyOf x) ≡ run x
 
