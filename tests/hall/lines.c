@@ -56,6 +56,11 @@ struct text {
     size_t length;
 };
 
+static void begin(struct text *text)
+{
+    text->length = 0;
+}
+
 static void add_byte(struct text *text, uint8_t byte)
 {
     if (text->length < sizeof text->bytes) {
@@ -249,7 +254,7 @@ static const char *const lines_of_words[] = {
 static void read_changed(const char *line, size_t to, const uint8_t *bytes, size_t count, size_t from)
 {
     struct text text;
-    text.length = 0;
+    begin(&text);
     add_bytes(&text, (const uint8_t *)line, to);
     add_bytes(&text, bytes, count);
     add(&text, line + from);
@@ -453,10 +458,12 @@ static uint8_t any_byte(void)
 /* Puts bytes in the place of one: none, one or two. */
 static void replace(struct text *text, size_t at, const uint8_t *bytes, size_t count)
 {
-    struct text old = *text;
+    uint8_t after[sizeof text->bytes];
+    size_t length = text->length - at - 1;
+    memcpy(after, text->bytes + at + 1, length);
     text->length = at;
     add_bytes(text, bytes, count);
-    add_bytes(text, old.bytes + at + 1, old.length - at - 1);
+    add_bytes(text, after, length);
 }
 
 /* A byte is changed, dropped, doubled or has another one in front; or the text is
@@ -493,7 +500,8 @@ static void mutate(struct text *text)
 /* A line that may be mutated, and its end, which may be missing. */
 static void add_any_line(struct text *text)
 {
-    struct text line = {.length = 0};
+    struct text line;
+    begin(&line);
     add_line(&line);
     if (once_in(3)) {
         for (uint32_t times = 1 + below(3); times > 0; times--) {
@@ -532,7 +540,7 @@ static void test_generated(void)
 {
     for (unsigned i = 0; i < 300000; i++) {
         struct text text;
-        text.length = 0;
+        begin(&text);
         add_any_line(&text);
         read_lines(&text);
     }
@@ -557,11 +565,12 @@ static void read_past_end(const struct text *text)
 
 static void test_texts(void)
 {
-    struct text text = {.length = 0};
+    struct text text;
     struct both both;
+    begin(&text);
     read_past_end(&text);
     for (unsigned i = 0; i < 3000; i++) {
-        text.length = 0;
+        begin(&text);
         for (uint32_t lines = below(12); lines > 0; lines--) {
             add_any_line(&text);
         }
@@ -604,13 +613,14 @@ static void print_action(const uint32_t *action, size_t text_len, size_t words_l
 /* What was printed reads back as these words. */
 static void read_back(const struct both *printed, uint32_t line_case, const uint32_t *wanted, size_t count)
 {
-    struct text text = {.length = 0};
+    struct text text;
     struct both both;
     uint32_t length = word_of(&printed->library, HALL_TEXT_LENGTH);
     if (length > HALL_MAX_LINE) {
         tell("a line is too long", printed);
         return;
     }
+    begin(&text);
     add_bytes(&text, printed->library.text + FRONT, length);
     int same = read_line(&text, 0, HALL_ANSWER_LENGTH, &both) == length &&
                word_of(&both.library, HALL_LINE_CASE) == line_case;
@@ -703,7 +713,7 @@ static void test_sets(void)
 static void test_printed(void)
 {
     test_sets();
-    for (unsigned i = 0; i < 100000; i++) {
+    for (unsigned i = 0; i < 50000; i++) {
         test_action(once_in(10) ? any_word() : below(13), mostly_none(), mostly_none(), mostly_none());
         test_action(below(12), any_word(), any_word(), once_in(2) ? below(256) : 0);
         test_any_opening();
@@ -756,8 +766,9 @@ static void test_action_slices(const uint32_t *action)
 
 static void test_line_slices(const char *line)
 {
-    struct text text = {.length = 0};
+    struct text text;
     struct both both;
+    begin(&text);
     add(&text, line);
     for (size_t words_len = 0; words_len <= LENT; words_len++) {
         read_line(&text, 0, words_len, &both);
