@@ -1,7 +1,7 @@
 /*
  * The text form of a run a second time, written from include/hall.h and
- * docs/text-form.md alone: calls that return and leave what those of the library
- * do, to compare these with.
+ * docs/text-form.md and not from the library's code: calls that return and leave
+ * what those of the library do, to compare these with.
  */
 #ifndef HL3_TESTS_SECOND_H
 #define HL3_TESTS_SECOND_H
