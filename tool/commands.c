@@ -89,7 +89,7 @@ static enum status print_help(const struct streams *io)
 
 static enum status help_command(const struct streams *io, int words, char **texts)
 {
-    if (words == 0) {
+    if (words == 0 || (words == 1 && strcmp(texts[0], "help") == 0)) {
         return print_help(io);
     }
     const struct command *command = find_command(texts[0]);
@@ -185,6 +185,17 @@ static int take_options(const struct command *command, struct line *line, struct
     return files == command->files && alone && (!(command->options & OPTION_OUTPUT) || options->output);
 }
 
+/* Whether --help stands among the words, before two dashes. */
+static int asks_help(int words, char **texts)
+{
+    for (int i = 0; i < words && strcmp(texts[i], "--") != 0; i++) {
+        if (strcmp(texts[i], "--help") == 0) {
+            return 1;
+        }
+    }
+    return 0;
+}
+
 /* Standard input is read once. */
 static int reads_twice(const struct options *options)
 {
@@ -195,7 +206,7 @@ static enum status perform(const struct streams *io, const struct command *comma
 {
     struct options options = {.files = {NULL, NULL}};
     struct line line = {texts, words};
-    if (words == 1 && strcmp(texts[0], "--help") == 0) {
+    if (asks_help(words, texts)) {
         return print_command_help(io, command);
     }
     if (!take_options(command, &line, &options) || reads_twice(&options)) {
@@ -212,14 +223,11 @@ static enum status choose(const struct streams *io, int words, char **texts)
     if (words == 0) {
         return complain_usage(io, "hall COMMAND ..; hall help lists the commands");
     }
-    if (strcmp(texts[0], "help") == 0) {
+    if (strcmp(texts[0], "help") == 0 || strcmp(texts[0], "--help") == 0) {
         return help_command(io, words - 1, texts + 1);
     }
-    if (strcmp(texts[0], "--help") == 0 && words == 1) {
-        return print_help(io);
-    }
-    if (strcmp(texts[0], "--version") == 0 && words == 1) {
-        return print_version(io);
+    if (strcmp(texts[0], "--version") == 0) {
+        return words == 1 ? print_version(io) : complain_usage(io, "hall --version");
     }
     const struct command *command = find_command(texts[0]);
     if (!command) {

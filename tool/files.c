@@ -85,13 +85,14 @@ static int write_in_place(const char *path, const uint8_t *bytes, size_t length)
     return to && write_and_close(to, bytes, length);
 }
 
-/* Opens a new file beside a path: its name with a number behind it. NULL if that
- * cannot be. */
+/* Opens a new file in the folder of a path, with a short name. NULL if that cannot
+ * be. */
 static FILE *open_beside(const char *path, char *name, size_t room)
 {
-    int at = -1;
+    const char *slash = strrchr(path, '/');
+    int at = -1, folder = slash ? (int)(slash + 1 - path) : 0;
     for (unsigned i = 0; i < 100 && at < 0; i++) {
-        snprintf(name, room, "%s.%ld-%u", path, (long)getpid(), i);
+        snprintf(name, room, "%.*s.hall-%ld-%u", folder, path, (long)getpid(), i);
         at = open(name, O_WRONLY | O_CREAT | O_EXCL, 0666);
         if (at < 0 && errno != EEXIST) {
             break;
@@ -116,6 +117,13 @@ static int write_beside(const char *path, const struct stat *old, const uint8_t 
     }
     free(name);
     return well;
+}
+
+int is_same_file(const char *one, const char *other)
+{
+    struct stat first, second;
+    return !is_stream(one) && !is_stream(other) && stat(one, &first) == 0 && stat(other, &second) == 0 &&
+           S_ISREG(first.st_mode) && first.st_dev == second.st_dev && first.st_ino == second.st_ino;
 }
 
 /* Writes a file. A link stays one. Whether that went well. */

@@ -114,6 +114,12 @@ static int is_binary(const struct bytes *text)
     return memchr(text->at, '\0', first) != NULL;
 }
 
+/* Some editors put a byte order mark in front of a text. */
+static int has_mark(const struct bytes *text)
+{
+    return text->length >= 3 && memcmp(text->at, "\xef\xbb\xbf", 3) == 0;
+}
+
 /* Says why bytes are no text. */
 static enum status complain_binary(const struct streams *io, const char *name, const struct bytes *bytes)
 {
@@ -132,6 +138,9 @@ static enum status unfold(const struct streams *io, const struct bytes *text, en
     }
     if (text->length > MAX_TEXT) {
         return complain(io, STATUS_USAGE, run->name, 0, "a text has at most %zu bytes", MAX_TEXT);
+    }
+    if (has_mark(text)) {
+        return complain(io, STATUS_USAGE, run->name, 1, "a byte order mark stands before the opening");
     }
     enum status status = story_read(io, text, reading, run);
     return status == STATUS_FINE ? write_run(io, run) : status;

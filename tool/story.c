@@ -19,7 +19,8 @@ static enum status wrong(const struct story *story, const char *words)
 /* What a line of the text form takes, by the word that it begins with. */
 static const struct hall_name form_usages[] = {
     {HALL_FIRST_HALL,
-     "hall takes a number of recorders, then founders and a set or whole, then votes and eight numbers"},
+     "hall takes a number of recorders, then if wanted founders and whole or a set with a member, then if wanted votes "
+     "and eight numbers"},
     {HALL_SUBMIT, "submit takes a recorder and a value"},
     {HALL_LABEL, "label takes a recorder"},
     {HALL_SEND_ENTRY, "send takes a recorder"},

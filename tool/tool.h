@@ -64,6 +64,9 @@ enum status read_bytes(const struct streams *io, const char *name, size_t most, 
  * stays as it was. */
 enum status write_bytes(const struct streams *io, const char *name, const uint8_t *bytes, size_t length);
 
+/* Whether two names are of one regular file. */
+int is_same_file(const char *one, const char *other);
+
 /* Writes all that is still to be written to the output stream. */
 enum status flush_output(const struct streams *io);
 

@@ -3,8 +3,8 @@
  * pages, and checks every value that comes back. Goes through views with great
  * numbers. Reads the margins of opened halls, with the built-in row and with
  * votes. Settles halls. Checks halls. Writes and reads run files, with votes and
- * without, and lists them. Then refused calls, each of which must leave all lent
- * bytes as they were.
+ * without, and lists them. Prints and reads lines of text. Then refused calls, each
+ * of which must leave all lent bytes as they were.
  *
  * Each lent slice is allocated by itself with just the length that is lent, so
  * that a memory checker sees any access outside it. The files of examples/ are
@@ -1076,6 +1076,197 @@ static void longest_listing(void)
     free(file);
 }
 
+/* What a line of text says: an opening (N, founders, third, votes) or an action. */
+struct saying {
+    const char *line;
+    uint32_t line_case;
+    uint32_t words[11];
+};
+
+static uint32_t print_line(const struct saying *says, uint8_t *text, size_t text_len, uint8_t *answer,
+                           size_t answer_len)
+{
+    const uint32_t *w = says->words;
+    if (says->line_case == HALL_LINE_ACTION) {
+        return hall_print_action(w[0], w[1], w[2], w[3], text, text_len, answer, answer_len);
+    }
+    return hall_print_opening(w[0], w[1], w[2], w[3], w[4], w[5], w[6], w[7], w[8], w[9], w[10], text, text_len,
+                              answer, answer_len);
+}
+
+/* Whether the line is printed into slices that are so many bytes longer than it and
+ * its answer; these stay. */
+static int line_printed(const struct saying *says, size_t rest)
+{
+    const uint32_t length = (uint32_t)strlen(says->line);
+    uint8_t *text = filled(length + rest, 0xa5);
+    uint8_t *answer = filled(HALL_ANSWER_LENGTH + rest, 0xa5);
+    uint32_t number = print_line(says, text, length + rest, answer, HALL_ANSWER_LENGTH + rest);
+    int ok = number == 0 && words_are(answer, rest, &length, 1) && memcmp(text, says->line, length) == 0 &&
+             holds_only(text, length, length + rest, 0xa5);
+    free(answer);
+    free(text);
+    return ok;
+}
+
+/* Whether it is refused with a number into slices of these lengths, and all bytes
+ * stay. */
+static int line_refused(const struct saying *says, size_t text_len, size_t answer_len, uint32_t wanted)
+{
+    uint8_t *text = filled(text_len, 0xa5);
+    uint8_t *answer = filled(answer_len, 0xa5);
+    uint32_t number = print_line(says, text, text_len, answer, answer_len);
+    int ok = number == wanted && holds_only(text, 0, text_len, 0xa5) && holds_only(answer, 0, answer_len, 0xa5);
+    free(answer);
+    free(text);
+    return ok;
+}
+
+/* Whether the line at an offset of a text has these words. */
+static int line_gives(const char *lines, size_t at, const uint32_t *wanted, size_t count)
+{
+    size_t length = strlen(lines);
+    uint8_t *text = filled(length, 0);
+    uint8_t *words = filled(HALL_ANSWER_LENGTH + 3, 0xa5);
+    memcpy(text, lines, length);
+    uint32_t number = hall_parse_line(text, length, at, words, HALL_ANSWER_LENGTH + 3);
+    int ok = number == 0 && words_are(words, 3, wanted, count) && memcmp(text, lines, length) == 0;
+    free(words);
+    free(text);
+    return ok;
+}
+
+/* Whether a line reads as what it says, up to its end. */
+static int line_read(const struct saying *says)
+{
+    uint32_t wanted[HALL_WORDS] = {says->line_case, (uint32_t)strlen(says->line)};
+    memcpy(wanted + HALL_LINE_K, says->words, sizeof says->words);
+    return line_gives(says->line, 0, wanted, HALL_WORDS);
+}
+
+/* Openings of all forms, an action of each kind, and words that no kind's line has. */
+static void printed_lines(void)
+{
+    static const struct saying sayings[] = {
+        {"hall 3\n", HALL_LINE_OPENING, {3}},
+        {"hall 3 founders {1,2}\n", HALL_LINE_OPENING, {3, 3}},
+        {"hall 3 founders whole\n", HALL_LINE_OPENING, {3, 7}},
+        {"hall 1 founders whole\n", HALL_LINE_OPENING, {1, 1}},
+        {"hall 3 votes 5 3 3 0 0 0 0 0\n", HALL_LINE_OPENING, {3, 0, 1, 5, 3, 3}},
+        {"hall 8 founders {1,2,3,4,5,6,7} votes 1000 1000 1000 1000 1000 1000 1000 1000\n",
+         HALL_LINE_OPENING,
+         {8, 127, 1, 1000, 1000, 1000, 1000, 1000, 1000, 1000, 1000}},
+        {"submit 2 101\n", HALL_LINE_ACTION, {HALL_SUBMIT, 2, 101}},
+        {"label 2\n", HALL_LINE_ACTION, {HALL_LABEL, 2}},
+        {"send 2\n", HALL_LINE_ACTION, {HALL_SEND_ENTRY, 2}},
+        {"summary 2\n", HALL_LINE_ACTION, {HALL_SEND_SUMMARY, 2}},
+        {"form 4 {1,3}\n", HALL_LINE_ACTION, {HALL_FORM, 0, 4, 5}},
+        {"form 4294967295 {}\n", HALL_LINE_ACTION, {HALL_FORM, 0, 4294967295u, 0}},
+        {"enter 3 4\n", HALL_LINE_ACTION, {HALL_ENTER, 3, 4}},
+        {"place 3 4\n", HALL_LINE_ACTION, {HALL_PLACE, 3, 4}},
+        {"receive 3\n", HALL_LINE_ACTION, {HALL_RECEIVE, 3}},
+        {"safe 0\n", HALL_LINE_ACTION, {HALL_SAFE}},
+        {"confirm 8\n", HALL_LINE_ACTION, {HALL_CONFIRM, 8}},
+        {"deliver 4294967295\n", HALL_LINE_ACTION, {HALL_DELIVER, 4294967295u}},
+        {"raw 12 9 0 0\n", HALL_LINE_ACTION, {12, 9}},
+        {"raw 1 2 101 1\n", HALL_LINE_ACTION, {HALL_SUBMIT, 2, 101, 1}},
+        {"raw 2 2 1 0\n", HALL_LINE_ACTION, {HALL_LABEL, 2, 1}},
+        {"raw 5 1 4 5\n", HALL_LINE_ACTION, {HALL_FORM, 1, 4, 5}},
+        {"raw 5 0 4 256\n", HALL_LINE_ACTION, {HALL_FORM, 0, 4, 256}},
+        {"raw 4294967295 4294967295 4294967295 4294967295\n",
+         HALL_LINE_ACTION,
+         {4294967295u, 4294967295u, 4294967295u, 4294967295u}},
+    };
+    for (size_t i = 0; i < sizeof sayings / sizeof sayings[0]; i++) {
+        size_t length = strlen(sayings[i].line);
+        CHECK(length <= HALL_MAX_LINE);
+        CHECK(line_printed(&sayings[i], 0));
+        CHECK(line_printed(&sayings[i], 3));
+        CHECK(line_read(&sayings[i]));
+        CHECK(line_refused(&sayings[i], length - 1, HALL_ANSWER_LENGTH, HALL_REFUSED_SHORT));
+        CHECK(line_refused(&sayings[i], length, HALL_ANSWER_LENGTH - 1, HALL_REFUSED_SHORT));
+        CHECK(line_refused(&sayings[i], 0, 0, HALL_REFUSED_SHORT));
+    }
+}
+
+/* 16, 41, 19, each before 18; with a third word other than 1 the votes are not
+ * looked at. */
+static void refused_lines(void)
+{
+    static const struct {
+        uint32_t wanted;
+        struct saying says;
+    } openings[] = {
+        {HALL_REFUSED_OPENING, {"", HALL_LINE_OPENING, {0}}},
+        {HALL_REFUSED_OPENING, {"", HALL_LINE_OPENING, {9, 1}}},
+        {HALL_REFUSED_OPENING, {"", HALL_LINE_OPENING, {3, 8}}},
+        {HALL_REFUSED_OPENING, {"", HALL_LINE_OPENING, {9, 0, 1}}},
+        {HALL_REFUSED_OPENING, {"", HALL_LINE_OPENING, {9, 0, 2}}},
+        {HALL_REFUSED_VOTES, {"", HALL_LINE_OPENING, {3, 7, 1}}},
+        {HALL_REFUSED_VOTES, {"", HALL_LINE_OPENING, {3, 7, 1, 1001}}},
+        {HALL_REFUSED_VOTES, {"", HALL_LINE_OPENING, {3, 7, 1, 1, 1, 1, 1}}},
+        {HALL_REFUSED_FILE, {"", HALL_LINE_OPENING, {3, 7, 2}}},
+        {HALL_REFUSED_FILE, {"", HALL_LINE_OPENING, {3, 7, 4294967295u, 1001}}},
+    };
+    const struct saying unlooked = {"hall 3\n", HALL_LINE_OPENING, {3, 0, 0, 1001, 0, 0, 0, 0, 0, 0, 1}};
+    for (size_t i = 0; i < sizeof openings / sizeof openings[0]; i++) {
+        CHECK(line_refused(&openings[i].says, HALL_MAX_LINE, HALL_ANSWER_LENGTH, openings[i].wanted));
+        CHECK(line_refused(&openings[i].says, 0, 0, openings[i].wanted));
+    }
+    CHECK(line_printed(&unlooked, 3));
+}
+
+/* A text line by line: blank ones, an opening, actions, wrong ones, and its end. */
+static void read_lines(void)
+{
+    static const char text[] = "# a remark\n"
+                               " \t\r\n"
+                               "hall 9 founders whole votes 1 2 3 4 5 6 7 4294967295\r\n"
+                               "\tform 004 {3,1}# another\n"
+                               "raw 1 2 3 0\n"
+                               "submit 9\n"
+                               "hall 3 founders {}\n"
+                               "raw 1 2 3 4294967296\n"
+                               "Submit 1 2\n"
+                               "label 2";
+    static const uint32_t wanted[][HALL_WORDS] = {
+        {HALL_LINE_BLANK, 11},
+        {HALL_LINE_BLANK, 15},
+        {HALL_LINE_OPENING, 69, 0, 9, 255, 1, 1, 2, 3, 4, 5, 6, 7, 4294967295u},
+        {HALL_LINE_ACTION, 94, 0, HALL_FORM, 0, 4, 5},
+        {HALL_LINE_ACTION, 106, 0, HALL_SUBMIT, 2, 3},
+        {HALL_LINE_WRONG, 115, 0, HALL_SUBMIT},
+        {HALL_LINE_WRONG, 134, 0, HALL_FIRST_HALL},
+        {HALL_LINE_WRONG, 155, 0, HALL_FIRST_RAW},
+        {HALL_LINE_WRONG, 166, 0, HALL_FIRST_NONE},
+        {HALL_LINE_ACTION, 173, 0, HALL_LABEL, 2},
+        {HALL_LINE_BLANK, 173},
+    };
+    const uint32_t past[] = {HALL_LINE_BLANK, (uint32_t)SIZE_MAX, (uint32_t)(SIZE_MAX >> 32)};
+    const uint32_t digits[] = {HALL_LINE_WRONG, 106, 0, HALL_FIRST_NONE}; /* `1 2 3 0` */
+    size_t at = 0;
+    for (size_t i = 0; i < sizeof wanted / sizeof wanted[0]; i++) {
+        CHECK(line_gives(text, at, wanted[i], HALL_WORDS));
+        at = wanted[i][HALL_LINE_NEXT];
+    }
+    CHECK(line_gives(text, 98, digits, 4));
+    CHECK(line_gives(text, SIZE_MAX, past, 3));
+    CHECK(line_gives("", SIZE_MAX, past, 3));
+    CHECK(line_gives("", 0, past, 0));
+}
+
+/* 18 alone. */
+static void refused_reading(void)
+{
+    const char *line = "hall 3\n";
+    for (size_t length = 0; length < HALL_ANSWER_LENGTH; length++) {
+        uint8_t *words = filled(length, 0xa5);
+        CHECK(hall_parse_line((const uint8_t *)line, strlen(line), 0, words, length) == HALL_REFUSED_SHORT);
+        CHECK(holds_only(words, 0, length, 0xa5));
+        free(words);
+    }
+}
+
 int main(void)
 {
     same_version();
@@ -1110,5 +1301,9 @@ int main(void)
     listed_run();
     listed_refusals();
     longest_listing();
+    printed_lines();
+    refused_lines();
+    read_lines();
+    refused_reading();
     return end_checks();
 }

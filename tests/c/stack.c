@@ -30,7 +30,7 @@ static uint8_t file[HALL_MAX_FILE];
 static uint32_t actions[4 * HALL_MAX_ACTIONS];
 static uint8_t text[HALL_MAX_LISTING];
 
-/* The bytes of the file to list and of the text lent for its listing. */
+/* The bytes of the file to list, and of the text lent for its listing or read from. */
 static size_t file_length;
 static size_t text_length;
 
@@ -111,6 +111,22 @@ static void check_hall(void)
 static void list_run(void)
 {
     number = hall_run_list(file, file_length, hall, sizeof hall, text, text_length, answer, room);
+}
+
+static void print_opening(void)
+{
+    number = hall_print_opening(8, 127, 1, 1000, 1000, 1000, 1000, 1000, 1000, 1000, 1000, text, sizeof text, answer,
+                                room);
+}
+
+static void print_action(void)
+{
+    number = hall_print_action(words[0], words[1], words[2], words[3], text, sizeof text, answer, room);
+}
+
+static void read_line(void)
+{
+    number = hall_parse_line(text, text_length, 0, answer, room);
 }
 
 static void fail(const char *what)
@@ -207,6 +223,9 @@ static struct peak peaks[] = {
     {"list a file that is refused", 0},
     {"list a run", 0},
     {"list a run, which is measured first", 0},
+    {"print an opening", 0},
+    {"print an action", 0},
+    {"read a line", 0},
 };
 
 enum { PEAKS = sizeof peaks / sizeof peaks[0] };
@@ -396,6 +415,53 @@ static void listings(void)
     measure("page of a full order", read_page, HALL_OK, SMALL);
 }
 
+/* Reads the line that was just printed. */
+static void read_within(void)
+{
+    text_length = hall_word(answer, HALL_TEXT_LENGTH);
+    answered_within(SMALL, "read a line", read_line);
+}
+
+/* An action of each kind, and the longest one. */
+static void printed_actions(void)
+{
+    for (uint32_t k = 1; k <= HALL_DELIVER; k++) {
+        const uint32_t plain[] = {k, k == HALL_FORM ? 0 : 8, k == HALL_FORM ? 4 : 0, k == HALL_FORM ? 255 : 0};
+        memcpy(words, plain, sizeof words);
+        answered_within(SMALL, "print an action", print_action);
+        read_within();
+    }
+    memset(words, 0xff, sizeof words);
+    answered_within(SMALL, "print an action", print_action);
+    read_within();
+}
+
+/* A line that fills the text: these words, then the same bytes over and over. */
+static void read_long(const char *begin, const char *more)
+{
+    size_t length = strlen(begin), step = strlen(more);
+    memcpy(text, begin, length);
+    for (text_length = length; text_length + step <= sizeof text; text_length += step) {
+        memcpy(text + text_length, more, step);
+    }
+    answered_within(SMALL, "read a line", read_line);
+}
+
+/* Lines of text: printed ones read back, and the longest ones. */
+static void lines(void)
+{
+    answered_within(SMALL, "print an opening", print_opening);
+    read_within();
+    printed_actions();
+    read_long("", " ");
+    read_long("# ", "remark ");
+    read_long("", "x");
+    read_long("label ", "0");
+    read_long("form 4 {", "1,");
+    read_long("hall 8 votes", " 1");
+    read_long("raw", " 0000000001");
+}
+
 int main(void)
 {
     measure("open with votes", open_row, HALL_OK, SMALL);
@@ -411,6 +477,7 @@ int main(void)
     measure("read a run with votes", read_run, HALL_OK, SMALL);
     measure("read an action", read_action, HALL_OK, SMALL);
     listings();
+    lines();
 
     print_peaks();
     printf("%u passed, %u failed\n", passed, failed);
