@@ -20,20 +20,38 @@ use Rattle.story.specs.Keywords.{submit-word, label-word, send-word, form-word,
 use Rattle.scanning.specs.Scanned.{chosen, closedBy, otherWord, lateWord}
 use Rattle.scanning.proofs.FieldsAt.{drop-step, drop-past}
 
+-- ## Bytes in a range
+
+in-low : (low high b : ℕ) → b < low → within low high b ≡ false
+unfolding within
+in-low low high b h = rw (lt-leb low b h)
+
+in-high : (low high b : ℕ) → high < b → within low high b ≡ false
+unfolding within
+in-high low high b h = by-cases (leb low b) (λ e. rw (e, lt-leb b high h)) (λ e. rw e)
+
+in-range : (low high b : ℕ) → low ≤ b → b ≤ high → within low high b ≡ true
+unfolding within
+in-range low high b h k = rw (le-leb low b h, le-leb b high k)
+
 -- ## Numbers
 
 -- a byte below or above the digits, and a digit
-pub goes-low : (n b : ℕ) → b < 48 → goesOn n b ≡ false
-unfolding goesOn within
-goes-low n b h = rw (lt-leb 48 b h)
+module _ (n b : ℕ) where
+  fits : Bool → Bool
+  fits t = t && ltb (withDigit n b) (2 ^ 32)
 
-pub goes-high : (n b : ℕ) → 57 < b → goesOn n b ≡ false
-unfolding goesOn within
-goes-high n b h = by-cases (leb 48 b) (λ e. rw (e, lt-leb b 57 h)) (λ e. rw e)
+  pub goes-low : b < 48 → goesOn n b ≡ false
+  unfolding goesOn fits
+  goes-low h = ap fits (in-low 48 57 b h)
 
-pub goes-digit : (n b : ℕ) → 48 ≤ b → b ≤ 57 → goesOn n b ≡ ltb (withDigit n b) (2 ^ 32)
-unfolding goesOn within
-goes-digit n b h k = rw (le-leb 48 b h, le-leb b 57 k)
+  pub goes-high : 57 < b → goesOn n b ≡ false
+  unfolding goesOn fits
+  goes-high h = ap fits (in-high 48 57 b h)
+
+  pub goes-digit : 48 ≤ b → b ≤ 57 → goesOn n b ≡ ltb (withDigit n b) (2 ^ 32)
+  unfolding goesOn fits
+  goes-digit h k = ap fits (in-range 48 57 b h k)
 
 -- what is known of a digit that a number goes on with
 pub record Digit (n b : ℕ) : Type 0 where
@@ -74,17 +92,21 @@ module _ (f : List ℕ) (n i : ℕ) where
 -- ## Sets
 
 -- a byte below or above the digits of recorders, and one of them
-pub joins-low : (m b : ℕ) → b < 49 → joins m b ≡ false
-unfolding joins within
-joins-low m b h = rw (lt-leb 49 b h)
+module _ (m b : ℕ) where
+  free : Bool → Bool
+  free t = t && not (inMask m (b - 48))
 
-pub joins-high : (m b : ℕ) → 56 < b → joins m b ≡ false
-unfolding joins within
-joins-high m b h = by-cases (leb 49 b) (λ e. rw (e, lt-leb b 56 h)) (λ e. rw e)
+  pub joins-low : b < 49 → joins m b ≡ false
+  unfolding joins free
+  joins-low h = ap free (in-low 49 56 b h)
 
-pub joins-digit : (m b : ℕ) → 49 ≤ b → b ≤ 56 → joins m b ≡ not (inMask m (b - 48))
-unfolding joins within
-joins-digit m b h k = rw (le-leb 49 b h, le-leb b 56 k)
+  pub joins-high : 56 < b → joins m b ≡ false
+  unfolding joins free
+  joins-high h = ap free (in-high 49 56 b h)
+
+  pub joins-digit : 49 ≤ b → b ≤ 56 → joins m b ≡ not (inMask m (b - 48))
+  unfolding joins free
+  joins-digit h k = ap free (in-range 49 56 b h k)
 
 pub joins-range : (m b : ℕ) → joins m b ≡ true → (49 ≤ b) × (b ≤ 56)
 unfolding joins within

@@ -3,8 +3,7 @@ use Prim.Native.Nat.{ℕ, zero, suc, _-_, _^_, _≤_, _<_}
 use native.Mathlib.Omega.{arith}
 use mathlib.Core.Path.{_≡_, sym, ap, subst, _∙_}
 use mathlib.Core.Bool.{Bool}
-use mathlib.Core.List.{List, [], _∷_}
-use lib.Dec.{lit<}
+use mathlib.Core.List.{List}
 use lib.ListN.{length, drop}
 use borrow.Author.Tests.{le-ltb}
 use Rattle.base.specs.Chains.{refuse}
@@ -13,25 +12,20 @@ use Rattle.base.proofs.Bools.{by-cases}
 use Rattle.base.proofs.ChainsLaws.{first-passes}
 use Rattle.model.specs.Opening.{openRefusal}
 use Rattle.model.specs.RunFile.{RunText, hasVotes, openingIn, maxActions, openingLength, distance, wordAt, blockAt, blocksAt, wordsAt, votesAt, openingAt, trailerOf, runPart, readText, Reading, readFile}
-use Rattle.runfile.specs.InRange.{Bytes}
+use Rattle.runfile.specs.InRange.{Bytes, Small}
 use Rattle.runfile.proofs.Blocks.{bytes-drop, length-blocksAt}
 use Rattle.runfile.proofs.Openings.{few, votes-with, votes-without}
 use Rattle.runfile.proofs.Read.{Readable, readable, taken}
 use Rattle.story.specs.Printing.{tellRefusal}
-use Rattle.story.specs.Stories.{storyRefusal, InWords, Tellable}
+use Rattle.story.specs.Stories.{storyRefusal, Tellable}
 
 -- ## Words of bytes
-
-bytes-are : (bs : List ℕ) → Each (λ (b : ℕ). b < 256) bs → Bytes bs
-bytes-are [] h i = lit< tt
-bytes-are (b ∷ bs) h zero = h .0
-bytes-are (b ∷ bs) h (suc i) = bytes-are bs (h .1) i
 
 word-in : (bs : List ℕ) → Bytes bs → wordAt bs < 2 ^ 32
 unfolding wordAt
 word-in bs b = omega (arith, b 0, b 1, b 2, b 3)
 
-block-in : (bs : List ℕ) → Bytes bs → InWords (blockAt bs)
+block-in : (bs : List ℕ) → Bytes bs → Small (blockAt bs)
 unfolding blockAt
 block-in bs b =
     record {
@@ -41,7 +35,7 @@ block-in bs b =
       b = word-in (drop 12 bs) (bytes-drop 12 bs b);
     }
 
-blocks-in : (c : ℕ) (bs : List ℕ) → Bytes bs → Each InWords (blocksAt c bs)
+blocks-in : (c : ℕ) (bs : List ℕ) → Bytes bs → Each Small (blocksAt c bs)
 unfolding blocksAt
 blocks-in zero bs b = tt
 blocks-in (suc c) bs b = (block-in bs b, blocks-in c (drop 16 bs) (bytes-drop 16 bs b))
@@ -78,7 +72,7 @@ module _ (bs : List ℕ) (b : Bytes bs) (g : Readable bs) (right : openRefusal (
         words = blocks-in (t .r) after (bytes-drop (openingLength (block .a)) part (bytes-drop (length bs - t .k) bs b));
       }
 
-pub file-tellable : (bs : List ℕ) (x : RunText) → Each (λ (b : ℕ). b < 256) bs → readFile bs ≡ Reading.text x → Tellable x
+pub file-tellable : (bs : List ℕ) (x : RunText) → Bytes bs → readFile bs ≡ Reading.text x → Tellable x
 file-tellable bs x h e =
     let k = taken bs x e in
-    subst Tellable (sym (k .same)) (text-tellable bs (bytes-are bs h) (readable bs (k .sound)) (k .right))
+    subst Tellable (sym (k .same)) (text-tellable bs h (readable bs (k .sound)) (k .right))

@@ -12,11 +12,11 @@ use Rattle.base.proofs.ListsLaws.{each-append}
 use Rattle.model.specs.Kinds.{Uses, uses, Kind, KindWord, kind, noKind, kindOf}
 use Rattle.model.specs.Call.{Words, wordsOf}
 use Rattle.model.specs.Listing.{fieldsAfter, line}
+use Rattle.runfile.specs.InRange.{Small}
 use Rattle.story.specs.Fields.{firstField, lineLength}
 use Rattle.story.specs.Keywords.{kindWord, raw-word, rawNumber, hallNumber, wordNumber}
 use Rattle.story.specs.Printing.{canTell, hasLine, argFields, kindFields, rawFields, actionText}
 use Rattle.story.specs.Parsing.{Line, blank, action, wrong, Taken, takeWord, TakenFour, takeFour, kindLine, rawLine, lineFrom, lineOf}
-use Rattle.story.specs.Stories.{InWords}
 use Rattle.story.proofs.FieldsLaws.{Field, fields-line, drop-line}
 use Rattle.story.proofs.KeywordsLaws.{kind-named, raw-number, raw-field}
 use Rattle.story.proofs.TakingLaws.{took, take-arg, arg-fields, take-four, raw-fields}
@@ -96,13 +96,13 @@ line-kind k κ fs e h =
     let y = ne-eqb k rawNumber (λ z. omega arith) in
     rw (x, lineFrom, y, e)
 
-raw-line : (w : Words) → InWords w → rawLine (rawFields w) ≡ action w
+raw-line : (w : Words) → Small w → rawLine (rawFields w) ≡ action w
 unfolding rawLine isEmpty
 raw-line w h =
     ap (λ (x : TakenFour). elim (x .ok && isEmpty (x .left)) [ true ↦ action (x .words) | false ↦ wrong rawNumber ])
     (ap takeFour (sym (append-nil (rawFields w))) ∙ take-four w h [])
 
-module _ (w : Words) (h : InWords w) where
+module _ (w : Words) (h : Small w) where
   -- a line of its kind
   by-kind : (κ : Kind) → kindOf (w .k) ≡ kind κ → hasLine w ≡ true → Tells (line (kindWord (w .k)) (kindFields w)) (action w)
   unfolding hasLine kindFields

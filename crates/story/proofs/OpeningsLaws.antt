@@ -23,13 +23,13 @@ use Rattle.model.specs.Opening.{wrongOpening, openRefusal}
 use Rattle.model.specs.Call.{Words, wordsOf}
 use Rattle.model.specs.RunFile.{FileOpening, hasVotes, rowGiven, openingIn}
 use Rattle.model.specs.Listing.{decimal, hall-word}
+use Rattle.runfile.specs.InRange.{Small}
 use Rattle.story.specs.Fields.{firstField}
 use Rattle.story.specs.Numbers.{Value, value}
 use Rattle.story.specs.Sets.{setText}
 use Rattle.story.specs.Keywords.{founders-word, whole-word, votes-word, hallNumber}
 use Rattle.story.specs.Printing.{rawFields, wholeMask, foundersFields, votesFields, openingText, tellRefusal}
 use Rattle.story.specs.Parsing.{Line, opening, wrong, Taken, TakenFour, takeFour, foundersOf, takeFounders, TakenVotes, takeEight, takeVotes, openingLine, lineFrom}
-use Rattle.story.specs.Stories.{InWords}
 use Rattle.story.proofs.FieldsLaws.{Field}
 use Rattle.story.proofs.NumbersLaws.{decimal-field}
 use Rattle.story.proofs.SetsLaws.{set-back, set-field}
@@ -141,7 +141,7 @@ record FourOf (n : ℕ) (ws : List ℕ) : Type 0 where
   pub four-words : Words
   pub more : List ℕ
   pub joined : ws ≡ four four-words ++ more
-  pub small : InWords four-words
+  pub small : Small four-words
   pub count : length more ≡ n
   pub small-more : Each Word more
 

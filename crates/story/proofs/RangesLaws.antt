@@ -13,11 +13,12 @@ use Rattle.codec.specs.Bytes.{sameBytes}
 use Rattle.model.specs.Kinds.{Use, unused, word, recorder, number, set, Uses, uses, KindWord, kind, noKind, kindOf}
 use Rattle.model.specs.Call.{Words, wordsOf}
 use Rattle.model.specs.RunFile.{FileOpening, RunText, hasVotes}
+use Rattle.runfile.specs.InRange.{Small}
 use Rattle.story.specs.Fields.{fieldsIn, firstField, lineLength}
 use Rattle.story.specs.Numbers.{numberOf}
 use Rattle.story.specs.Keywords.{votes-word, rawNumber, hallNumber, wordNumber}
 use Rattle.story.specs.Parsing.{Line, blank, opening, action, wrong, takeField, takeWord, takeFour, kindLine, rawLine, takeFounders, TakenVotes, takeEight, takeVotes, openingLine, lineFrom, lineOf}
-use Rattle.story.specs.Stories.{readLines, linesIn, Story, run, refused, untold, Actions, actions, others, andThen, actionsIn, storyRefusal, judged, storyIn, readStory, InWords, Tellable}
+use Rattle.story.specs.Stories.{readLines, linesIn, Story, run, refused, untold, Actions, actions, others, andThen, actionsIn, storyRefusal, judged, storyIn, readStory, Tellable}
 use Rattle.story.proofs.NumbersLaws.{number-word}
 use Rattle.story.proofs.SetsLaws.{set-small}
 use Rattle.story.proofs.KeywordsLaws.{kind-named}
@@ -33,7 +34,7 @@ record VotesOf (third : ℕ) (ws : List ℕ) : Type 0 where
 abbrev InRange : Line → Type 0
 InRange blank = Unit {0}
 InRange (opening o) = VotesOf (o .third) (o .words)
-InRange (action w) = InWords w
+InRange (action w) = Small w
 InRange (wrong k) = Unit {0}
 
 range-if : (t : Bool) (x y : Line) → InRange x → InRange y → InRange (elim t [ true ↦ x | false ↦ y ])
@@ -58,7 +59,7 @@ kind-range k u fs h =
     (record { k = h; r = word-range (u .r) fs; a = word-range (u .a) (r .left); b = word-range (u .b) (a .left) })
     tt
 
-four-range : (fs : List (List ℕ)) → InWords (takeFour fs .words)
+four-range : (fs : List (List ℕ)) → Small (takeFour fs .words)
 unfolding takeFour takeField
 four-range fs = record { k = number-word _; r = number-word _; a = number-word _; b = number-word _ }
 
@@ -113,10 +114,10 @@ lines-range (suc n) bs = by-cases (isEmpty bs) (λ e. rw (e, readLines) tt) (λ 
 -- ## A run
 
 abbrev ActionsInRange : Actions → Type 0
-ActionsInRange (actions ws) = Each InWords ws
+ActionsInRange (actions ws) = Each Small ws
 ActionsInRange others = Unit {0}
 
-then-range : (w : Words) (x : Actions) → InWords w → ActionsInRange x → ActionsInRange (andThen w x)
+then-range : (w : Words) (x : Actions) → Small w → ActionsInRange x → ActionsInRange (andThen w x)
 unfolding andThen
 then-range w (actions ws) h k = (h, k)
 then-range w others h k = tt

@@ -10,9 +10,10 @@ use Rattle.base.specs.Lists.{Each, isEmpty}
 use Rattle.base.proofs.ChainsLaws.{chain-none}
 use Rattle.model.specs.Call.{Words}
 use Rattle.model.specs.RunFile.{RunText}
+use Rattle.runfile.specs.InRange.{Small}
 use Rattle.story.specs.Printing.{actionText, openingText, tellRefusal}
 use Rattle.story.specs.Parsing.{Line, opening, action}
-use Rattle.story.specs.Stories.{actionsText, storyOf, readLines, linesIn, run, actions, andThen, actionsIn, storyRefusal, judged, storyIn, readStory, InWords, Tellable}
+use Rattle.story.specs.Stories.{actionsText, storyOf, readLines, linesIn, run, actions, andThen, actionsIn, storyRefusal, judged, storyIn, readStory, Tellable}
 use Rattle.story.proofs.LinesLaws.{Tells, line-read, line-dropped, line-some, tells-action}
 use Rattle.story.proofs.OpeningsLaws.{told-opens, tells-opening}
 
@@ -42,7 +43,7 @@ module _ (t : List ℕ) (l : Line) (h : Tells t l) (tail : List ℕ) where
   read-told ls f (suc n) k =
       read-line n ∙ ap (λ (ms : List Line). l ∷ ms) (f n (omega (arith, length-append t tail, some t (line-some t l h) .1)))
 
-read-actions : (ws : List Words) → Each InWords ws → (n : ℕ) → length (actionsText ws) ≤ n → readLines n (actionsText ws) ≡ map action ws
+read-actions : (ws : List Words) → Each Small ws → (n : ℕ) → length (actionsText ws) ≤ n → readLines n (actionsText ws) ≡ map action ws
 unfolding actionsText
 read-actions [] h n k = read-none n
 read-actions (w ∷ ws) h n k =

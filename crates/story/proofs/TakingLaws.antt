@@ -8,12 +8,12 @@ use Rattle.base.specs.Lists.{Each, rest}
 use Rattle.model.specs.Kinds.{Use, unused, word, recorder, number, set}
 use Rattle.model.specs.Call.{Words}
 use Rattle.model.specs.Listing.{decimal}
+use Rattle.runfile.specs.InRange.{Small}
 use Rattle.story.specs.Fields.{firstField}
 use Rattle.story.specs.Numbers.{Value, value, numberOf}
 use Rattle.story.specs.Sets.{setOf}
 use Rattle.story.specs.Printing.{canTell, argFields, rawFields}
 use Rattle.story.specs.Parsing.{Taken, takeField, takeWord, takeFour}
-use Rattle.story.specs.Stories.{InWords}
 use Rattle.story.proofs.FieldsLaws.{Field}
 use Rattle.story.proofs.NumbersLaws.{number-decimal, decimal-field}
 use Rattle.story.proofs.SetsLaws.{set-back, set-field}
@@ -51,7 +51,7 @@ module _ (w : ℕ) (h : w < 2 ^ 32) where
 
 -- ## Four numbers
 
-module _ (w : Words) (h : InWords w) where
+module _ (w : Words) (h : Small w) where
   pub take-four : (fs : List (List ℕ)) → takeFour (rawFields w ++ fs) ≡ record { ok = true; words = w; left = fs }
   unfolding takeFour takeField firstField rest rawFields
   take-four fs =

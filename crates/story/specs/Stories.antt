@@ -1,6 +1,6 @@
 -- Whole runs as text, and the statements about them.
 -- Assumes nothing.
-use Prim.Native.Nat.{ℕ, zero, suc, _^_, _<_}
+use Prim.Native.Nat.{ℕ, zero, suc}
 use mathlib.Core.Path.{_≡_}
 use mathlib.Core.Bool.{true, false}
 use mathlib.Core.List.{List, [], _∷_, _++_}
@@ -10,6 +10,7 @@ use Rattle.base.specs.Chains.{refuse, _⨾_}
 use Rattle.base.specs.Lists.{Each, isEmpty}
 use Rattle.model.specs.Call.{Words}
 use Rattle.model.specs.RunFile.{FileOpening, RunText, hasVotes, maxActions, Reading, readFile}
+use Rattle.runfile.specs.InRange.{Bytes, Small}
 use Rattle.story.specs.Fields.{lineLength}
 use Rattle.story.specs.Printing.{actionText, openingText, tellRefusal}
 use Rattle.story.specs.Parsing.{Line, blank, opening, action, wrong, lineOf}
@@ -83,19 +84,12 @@ readStory bs = storyIn (linesIn bs)
 
 -- ## What is shown
 
--- words of 32 bits
-pub record InWords (w : Words) : Type 0 where
-  pub k : w .k < 2 ^ 32
-  pub r : w .r < 2 ^ 32
-  pub a : w .a < 2 ^ 32
-  pub b : w .b < 2 ^ 32
-
 -- a run that a run file has: one that is not refused, of words of 32 bits, whose eight vote words are 0 without a third word of 1
 pub record Tellable (x : RunText) : Type 0 where
   pub taken : storyRefusal x ≡ 0
   pub eight : length (x .opening .words) ≡ 8
   pub unvoted : hasVotes (x .opening .third) ≡ false → x .opening .words ≡ replicate 8 0
-  pub words : Each InWords (x .actions)
+  pub words : Each Small (x .actions)
 
 -- what is printed of a run reads back as that run
 pub record TellsBack : Type 1 where
@@ -107,5 +101,5 @@ pub record TellsAgain : Type 1 where
 
 -- every run of a run file, a list of bytes, has a text
 pub record FileTells : Type 1 where
-  pub file : (bs : List ℕ) (x : RunText) → Each (λ (b : ℕ). b < 256) bs → readFile bs ≡ Reading.text x
+  pub file : (bs : List ℕ) (x : RunText) → Bytes bs → readFile bs ≡ Reading.text x
       → readStory (storyOf x) ≡ run x
