@@ -1,5 +1,7 @@
 // The C interface (include/hall.h): open, step, settle, step back, page, check, run files, listings and lines of text, on numbers and slices.
 // Each of these functions returns 0 or the number of the refusal. An answer is words in a lent slice.
+
+#![tactic(auto)]
 ghost use Rattle.std.specs.Prelude.{◌≡◌, [], ◌∷◌};
 ghost use Rattle.calls.specs.Calls.{open_on};
 ghost use Rattle.model.specs.Opening.{opening_of};

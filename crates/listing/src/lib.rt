@@ -1,5 +1,7 @@
 // The lines of the replay listing (01, "The replay listing"), written into a lent buffer, and their lengths. These
 // functions are for the crates of this repository: a `requires` is met by each caller's proof.
+
+#![tactic(auto)]
 ghost use Rattle.std.specs.Prelude.{[], ◌∷◌};
 ghost use Rattle.model.specs.Payloads.{payload_meaning};
 ghost use Rattle.model.specs.Answers.{message};

@@ -1,5 +1,7 @@
 // Calls on a hall that return their number and write their answer's values into a lent slice (`lent`): a page, a step and a
 // settle, and the two that are held in an undo buffer.
+
+#![tactic(auto)]
 ghost use Rattle.std.specs.Prelude.{◌≡◌};
 ghost use Rattle.base.specs.Chains.{◌⨾◌};
 ghost use Rattle.model.specs.Answers as model;

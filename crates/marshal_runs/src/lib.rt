@@ -1,5 +1,7 @@
 // Calls on a run file that return their number and write their answer's values into a lent slice (`lent`): reading its
 // opening and its actions, and writing it.
+
+#![tactic(auto)]
 ghost use Rattle.std.specs.Prelude.{◌≡◌, List, ℕ};
 ghost use Rattle.base.specs.Chains.{◌⨾◌};
 ghost use Rattle.model.specs.RunFile.{write_file};

@@ -1,5 +1,7 @@
 // Calls on text that return their number and write their answer's values into a lent slice (`lent`): the listing of a run,
 // and a line of the text form, printed or read.
+
+#![tactic(auto)]
 ghost use Rattle.std.specs.Prelude.{◌≡◌, List, ℕ, ◌≤◌, length};
 ghost use Rattle.model.specs.Call.{words_of};
 ghost use Rattle.calls.specs.Lent.{Leaves, taken, lent_call};

@@ -1,5 +1,7 @@
 // Opening a hall on lent bytes (document 01, "Votes and views" and "A hall's fields"; 02, A4 and A8; refusals 16, 41 and 18).
 
+#![tactic(auto)]
+
 ghost use Rattle.std.specs.Prelude.{◌≡◌, List, ◌++◌, ℕ, ◌+◌, ◌-◌, ◌*◌, ◌≤◌, ◌<◌, length, drop};
 ghost use Rattle.std.proofs.lemmas.List.Edits.{sets};
 ghost use Rattle.model.specs.Opening.{opening_of, founder_mask};

@@ -1,5 +1,7 @@
 // A line of the text form of a run, printed as the crate `story` defines it: an action's, and an opening's. The functions
 // that write into a lent buffer are for this crate alone: a `requires` is met by each caller's proof.
+
+#![tactic(auto)]
 ghost use Rattle.std.specs.Prelude.{◌≡◌, [], ◌∷◌, ◌-◌, ◌%◌, ◌^◌, ◌≤◌, eqb};
 ghost use Rattle.model.specs.Kinds.{last_kind};
 ghost use Rattle.model.specs.Call.{words_of};

@@ -1,6 +1,8 @@
 // Sets, votes and margins of a hall, and the rows of votes (document 01, "Votes and views"; 02, A1, A4 and A6). For the crates
 // of this repository: a `requires` is met by each caller's proof.
 
+#![tactic(auto)]
+
 ghost use Rattle.std.specs.Prelude.{◌≡◌, true, ℕ, ◌-◌, ◌^◌, ◌≤◌, drop};
 ghost use Rattle.quorum.specs.Sets.{in_mask};
 ghost use Rattle.quorum.specs.Votes.{margin, share, counted, built_in, row_of};

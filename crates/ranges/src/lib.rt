@@ -2,6 +2,8 @@
 // Four bytes are always a view number or 0 for none (02, A2), so of numbers only those of formed views are tested.
 // The tests of a cell are gathered by `&`: all are made, with no branch. These functions are for the crates of this
 // repository: a `requires` is met by each caller's proof.
+
+#![tactic(auto)]
 ghost use Rattle.std.specs.Prelude.{◌≡◌, ◌+◌, ◌-◌, ◌*◌, ◌≤◌, ◌<◌, length, take};
 ghost use Rattle.codec.specs.Bytes.{part};
 ghost use Rattle.codec.specs.Number.{byte, mark};

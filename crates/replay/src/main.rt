@@ -1,5 +1,7 @@
 // Replays a run file from standard input, and writes its listing to standard output. What cannot be read or written is told
 // in one line on standard error: a Rattle program has no exit status.
+
+#![tactic(auto)]
 ghost use Rattle.std.specs.Prelude.{◌≡◌, ◌*◌, ◌≤◌, length, take};
 ghost use Rattle.model.specs.Call.{hl3};
 ghost use Rattle.model.specs.Listing.{listing};

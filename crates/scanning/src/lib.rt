@@ -1,5 +1,7 @@
 // The fields of a line of text, by their offsets, and what they are read as: a number, a set of recorders, a word (the crate
 // `story`). For the crates of this repository: a `requires` is met by each caller's proof.
+
+#![tactic(auto)]
 ghost use Rattle.std.specs.Prelude.{◌≡◌, true, false, ◌+◌, ◌≤◌, ◌<◌, length, drop};
 ghost use Rattle.codec.specs.Bytes.{same_bytes};
 ghost use Rattle.story.specs.Fields.{is_blank, is_end, is_break, line_length};

@@ -1,5 +1,7 @@
 // Settling a hall (02, A5): turn by turn the first call in the order of kinds 6, 4, 3, 2, 7, 8, 9, 10, 11 that is not refused, lowest
 // recorder first, in the view with the greatest number. The work goes on a copy, since 40 leaves all bytes as at the start.
+
+#![tactic(auto)]
 ghost use Rattle.std.specs.Prelude.{◌≡◌, true, ◌||◌, map, ◌≤◌, eqb, length};
 ghost use Rattle.base.specs.Chains.{refuse};
 ghost use Rattle.quorum.specs.Sets.{members};

@@ -1,5 +1,7 @@
 // A step on lent bytes: the words judged (11 to 15), the bytes checked (31), and the kind's action on them; and the number
 // that a step would answer with, judged alone.
+
+#![tactic(auto)]
 ghost use Rattle.std.specs.Prelude.{◌≡◌, true, ◌≤◌};
 ghost use Rattle.base.specs.Chains.{◌⨾◌};
 ghost use Rattle.model.specs.Hall.{max_recorders};

@@ -1,5 +1,7 @@
 // Calls that hold their actions in an undo buffer, and a step back (02, A7; docs/undo-buffer.md). Each is judged first and then
 // performed, so that a refused one writes nothing.
+
+#![tactic(auto)]
 ghost use Rattle.std.specs.Prelude.{◌≡◌, true};
 ghost use Rattle.model.specs.Answers.{plain};
 ghost use Rattle.model.specs.Call.{words_of};

@@ -1,5 +1,7 @@
 // Text in a lent buffer: bytes, words, decimal numbers, the fields of a line and labels (01, "The replay listing"); and
 // the lengths of such text. These functions are for the crates of this repository: a `requires` is met by each caller's proof.
+
+#![tactic(auto)]
 ghost use Rattle.std.specs.Prelude.{[], ◌∷◌};
 ghost use Rattle.model.specs.Listing.{decimal};
 ghost use Rattle.text.specs.Text.{Room, Wrote, Sized};

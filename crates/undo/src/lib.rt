@@ -1,6 +1,8 @@
 // The undo buffer (02, A7; docs/undo-buffer.md): up to 16 slots, oldest first, each an accepted action's words and two parts of
 // the hall's bytes as they were before it. Its check, a slot pushed, the newest one put back and popped.
 // These functions are for the crates of this repository: a `requires` is met by each caller's proof.
+
+#![tactic(auto)]
 ghost use Rattle.std.specs.Prelude.{◌≡◌, true, ◌+◌, ◌*◌, ◌≤◌, ◌<◌, length};
 ghost use Rattle.std.proofs.Math.Option.{some};
 ghost use Rattle.std.proofs.lemmas.List.Edits.{sets};

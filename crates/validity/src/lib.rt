@@ -1,5 +1,7 @@
 // Is a byte slice the stored form of a hall? Each field in its range (crate ranges), and the cross rules. The tests are
 // gathered by `&` and `|`: all are made, with no branch.
+
+#![tactic(auto)]
 ghost use Rattle.std.specs.Prelude.{◌≡◌, not, ◌&&◌, ◌||◌, ◌+◌, ◌-◌, ◌*◌, ◌≤◌, ◌<◌, eqb, length};
 ghost use Rattle.codec.specs.ByteList.{list_at};
 ghost use Rattle.base.specs.Lists.{has, all};

@@ -1,5 +1,7 @@
 // Refusals "because of the input", 12 to 16 and 41: those of a kind by the table of kinds, those of an opening, and how two
 // refusals come in turn. For the crates of this repository: a `requires` is met by each caller's proof.
+
+#![tactic(auto)]
 ghost use Rattle.std.specs.Prelude.{◌≡◌, not, ◌^◌, ◌≤◌, leb};
 ghost use Rattle.base.specs.Numbers.{within};
 ghost use Rattle.base.specs.Chains.{refuse, ◌⨾◌};
