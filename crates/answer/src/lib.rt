@@ -1,6 +1,7 @@
 // The answers of a call as values, and the same in plain numbers (specs/Meaning.antt).
 
 #![tactic(auto)]
+
 ghost use Rattle.std.specs.Prelude.{◌≡◌};
 ghost use Rattle.model.specs.Answers.{accepted, word};
 ghost use Rattle.answer.specs.Meaning.{meaning, SaysAnswer, SaysPage, SaysSettled};

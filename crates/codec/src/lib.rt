@@ -2,6 +2,9 @@
 // that gets and puts bytes, words and byte lists at an offset of a byte slice, and that reads and changes byte lists
 // and rows of flags by value.
 // These functions are for the crates of this repository: a `requires` is met by each caller's proof.
+
+#![tactic(auto)]
+
 ghost use Rattle.std.specs.Prelude.{◌≡◌, true, ◌&&◌, ◌||◌, [], ◌∷◌, ◌++◌, ◌+◌, ◌-◌, ◌≤◌, ◌<◌, eqb, length, get_or, take, drop};
 ghost use Rattle.std.proofs.lemmas.List.Edits.{sets};
 ghost use Rattle.base.specs.Lists.{bit, count_of, nth};
