@@ -6,8 +6,8 @@ use Rattle.answer.proofs.plain_message.Goals as goal
 
 pub returns-in-Entry : goal.returns-in-Entry
 unfolding plain meaning content_meaning
-returns-in-Entry c = rw c.content-1.given.1 (record { number = refl; values = refl })
+returns-in-Entry c = rw c.in-Entry.is (record { number = refl; values = refl })
 
 pub returns-in-Summary : goal.returns-in-Summary
 unfolding plain meaning content_meaning
-returns-in-Summary c = rw c.content-in-Summary-1.given.1 (record { number = refl; values = refl })
+returns-in-Summary c = rw c.in-Summary.is (record { number = refl; values = refl })

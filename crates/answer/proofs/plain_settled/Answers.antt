@@ -5,8 +5,8 @@ use Rattle.answer.proofs.plain_settled.Goals as goal
 
 pub returns-in-Count : goal.returns-in-Count
 unfolding settled_meaning
-returns-in-Count c = rw c.a-1.given.1 (record { number = refl; values = refl })
+returns-in-Count c = rw c.in-Count.is (record { number = refl; values = refl })
 
 pub returns-in-Refused : goal.returns-in-Refused
 unfolding settled_meaning
-returns-in-Refused c = rw c.a-in-Refused-1.given.1 (record { number = refl; values = refl })
+returns-in-Refused c = rw c.in-Refused.is (record { number = refl; values = refl })
