@@ -9,7 +9,7 @@ ghost use Rattle.answer.specs.Meaning.{meaning, SaysAnswer, SaysPage, SaysSettle
 use model::payload::Payload;
 
 // An entry, with its label and payload.
-#[derive(Drop)]
+#[derive(Clone, Copy)]
 pub struct EntryPart {
     pub view: u32,
     pub seq: u32,
@@ -18,7 +18,7 @@ pub struct EntryPart {
 }
 
 // A summary: its known count, order length, confirm mark and highest primary.
-#[derive(Drop)]
+#[derive(Clone, Copy)]
 pub struct SummaryCounts {
     pub known: u32,
     pub order: u32,
@@ -27,28 +27,28 @@ pub struct SummaryCounts {
 }
 
 // "either an entry or a summary"
-#[derive(Drop)]
+#[derive(Clone, Copy)]
 pub enum Content {
     Entry(EntryPart),
     Summary(SummaryCounts),
 }
 
 // "A receive answer gives the source and either an entry or a summary; so does a safe notice."
-#[derive(Drop)]
+#[derive(Clone, Copy)]
 pub struct Message {
     pub source: u32,
     pub content: Content,
 }
 
 // "Deliver gives sender and value."
-#[derive(Drop)]
+#[derive(Clone, Copy)]
 pub struct Sent {
     pub sender: u32,
     pub payload: Payload,
 }
 
 // The answer of an action. "The others give only done." "A refusal gives its number".
-#[derive(Drop)]
+#[derive(Clone, Copy)]
 pub enum Answer {
     Done,
     Message(Message),
@@ -57,7 +57,7 @@ pub enum Answer {
 }
 
 // An answer in plain numbers: 0 or the refusal's number, and which case it is with its fields.
-#[derive(Drop)]
+#[derive(Clone, Copy)]
 pub struct PlainAnswer {
     pub number: u32,
     pub values: [u32; 6],
@@ -111,7 +111,7 @@ pub fn is_accepted(a: Answer) -> bool
 }
 
 // "The page of a recorder gives .."; "the margin in place of the yes or no" (02, A1)
-#[derive(Drop)]
+#[derive(Clone, Copy)]
 pub struct Page {
     pub view: u32,
     pub set: u32,
@@ -128,7 +128,7 @@ pub struct Page {
     pub value: u32,
 }
 
-#[derive(Drop)]
+#[derive(Clone, Copy)]
 pub enum PageAnswer {
     Shown(Page),
     Refused(u32),
@@ -146,7 +146,7 @@ fn word(m: i32) -> u32
 }
 
 // A page in plain numbers: 0 or the refusal's number, and the page's fields in turn, the margin as a word.
-#[derive(Drop)]
+#[derive(Clone, Copy)]
 pub struct PlainPage {
     pub number: u32,
     pub values: [u32; 13],
@@ -182,14 +182,14 @@ pub fn plain_page(a: PageAnswer) -> PlainPage
 }
 
 // The answer of a settle (02, A5): the count of accepted steps, or the refusal's number.
-#[derive(Drop)]
+#[derive(Clone, Copy)]
 pub enum Settled {
     Count(u32),
     Refused(u32),
 }
 
 // The same in plain numbers.
-#[derive(Drop)]
+#[derive(Clone, Copy)]
 pub struct PlainSettled {
     pub number: u32,
     pub values: [u32; 1],

@@ -181,7 +181,7 @@ pub fn all_in(b: &[u8], from: usize, to: usize, lo: u8, hi: u8) -> bool
 
 // A list of at most 72 bytes: the first `len` of `places`. Where it is stored it has a capacity of its own,
 // which may be less.
-#[derive(Drop)]
+#[derive(Clone, Copy)]
 pub struct ByteList {
     pub places: [u8; ByteList::CAPACITY],
     pub len: usize,
@@ -256,7 +256,7 @@ pub fn byte_at(l: ByteList, k: usize) -> u8
 }
 
 // The first of some numbers: "nothing waits" is Nothing.
-#[derive(Drop)]
+#[derive(Clone, Copy)]
 pub enum Waiting {
     Found(u8),
     Nothing,

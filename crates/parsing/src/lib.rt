@@ -22,7 +22,7 @@ use words::{Use, Uses, uses_of};
 // ## Fields taken one after another
 
 // A word taken off a line: whether it has its form, its number, and the offset after it.
-#[derive(Drop)]
+#[derive(Clone, Copy)]
 struct Taken {
     ok: bool,
     number: u32,
@@ -80,7 +80,7 @@ fn take_word(u: Use, text: &[u8], at: usize) -> Taken
 }
 
 // Four numbers, and the offset after them.
-#[derive(Drop)]
+#[derive(Clone, Copy)]
 struct TakenFour {
     ok: bool,
     words: Action,
@@ -120,7 +120,7 @@ fn is_over(text: &[u8], at: usize) -> bool
 // ## Lines
 
 // What a line says: nothing, an opening, an action, or no line of the text form, with the number of its first word.
-#[derive(Drop)]
+#[derive(Clone, Copy)]
 pub enum Line {
     Blank,
     Opening(FileOpening),
@@ -220,7 +220,7 @@ fn take_founders(n: u32, text: &[u8], at: usize) -> Taken
 }
 
 // The third word and the vote words, and the offset after them.
-#[derive(Drop)]
+#[derive(Clone, Copy)]
 struct TakenVotes {
     ok: bool,
     third: u32,
@@ -344,7 +344,7 @@ fn line_at(text: &[u8], at: usize) -> Line
 }
 
 // A line, and the offset after it and its byte 10.
-#[derive(Drop)]
+#[derive(Clone, Copy)]
 pub struct LineAt {
     pub line: Line,
     pub next: usize,

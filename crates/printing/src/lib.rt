@@ -24,7 +24,7 @@ use words::{Use, Uses, first, is_outside, refusal, uses_of};
 pub const MAX_LINE: usize = 160;
 
 // A refusal's number, 0 for none, and a line: the first `len` bytes.
-#[derive(Drop)]
+#[derive(Clone, Copy)]
 pub struct Printed {
     pub number: u32,
     pub bytes: [u8; MAX_LINE],

@@ -83,7 +83,7 @@ pub fn line_end(text: &[u8], at: usize) -> usize
 }
 
 // Where a field stands: nowhere if both are the same.
-#[derive(Drop)]
+#[derive(Clone, Copy)]
 pub struct Span {
     pub from: usize,
     pub to: usize,
@@ -102,7 +102,7 @@ pub fn next_field(text: &[u8], at: usize) -> Span
 // ## Values
 
 // What a field is read as: whether it has the form asked for, and its number, else 0.
-#[derive(Drop)]
+#[derive(Clone, Copy)]
 pub struct Value {
     pub ok: bool,
     pub number: u32,

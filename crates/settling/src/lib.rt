@@ -32,7 +32,7 @@ const HALL: usize = layout::LENGTH;
 const KINDS: usize = 9;
 
 // What a turn finds: the call that it takes, by kind and recorder, a 40 before one, or no call.
-#[derive(Drop)]
+#[derive(Clone, Copy)]
 pub enum Turn {
     Takes(u32, u32),
     Full,

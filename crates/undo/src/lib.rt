@@ -107,7 +107,7 @@ pub fn count(u: &[u8]) -> usize
 }
 
 // The two parts of a hall's bytes that an action writes: where each stands, and how many bytes it has.
-#[derive(Drop)]
+#[derive(Clone, Copy)]
 struct Parts {
     first: usize,
     first_size: usize,
@@ -298,7 +298,7 @@ fn newest_at(u: &[u8]) -> usize
 }
 
 // An action's words.
-#[derive(Drop)]
+#[derive(Clone, Copy)]
 pub struct Action {
     pub k: u32,
     pub r: u32,

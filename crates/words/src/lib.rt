@@ -18,7 +18,7 @@ use quorum::wrong_row;
 const RECORDERS: u32 = MAX_RECORDERS as u32;
 
 // What a kind uses a word for: nothing (it is 0), any word, a recorder 1 to N, a view number, the set of a new view.
-#[derive(Drop)]
+#[derive(Clone, Copy)]
 pub enum Use {
     Unused,
     Word,
@@ -28,7 +28,7 @@ pub enum Use {
 }
 
 // How a kind uses R, A and B.
-#[derive(Drop)]
+#[derive(Clone, Copy)]
 pub struct Uses(pub Use, pub Use, pub Use);
 
 // The table of kinds, the model's row by row. "Form view A with set B (R is 0)."
