@@ -1,0 +1,17 @@
+-- The fields, and the label. Assumes nothing.
+use mathlib.Core.Bool.{and_assoc}
+use lib.ListN.{get_or}
+use native.Mathlib.Omega.{arith}
+use Prim.Native.Nat.{ℕ, ◌+◌, ◌<◌}
+use Rattle.store.specs.Layout.{entry_payload_at, payload_size}
+use Rattle.ranges.proofs.Parts.{view-number-part}
+use Rattle.ranges.proofs.CellPartsLaws.{entry-part}
+use Rattle.ranges.proofs.valid_entry.Goals as goal
+
+pub returns : goal.returns
+returns c =
+    let start = c.before.before.before.before.before.before.before in
+    let a = start.args in
+    let k : (i : ℕ) → get_or a.b.now i 0 < 256 = λ i. (c.shared_slice_known-1.given i).fits in
+    let any = view-number-part (a.at + entry_payload_at + payload_size) a.b.now (omega (arith, start.requires)) k in
+    simp and_assoc (cc (simp (and_assoc, any) at (entry-part a.n a.at a.b.now start.requires k)))
