@@ -3,7 +3,6 @@ use borrow.Author.Rules.{rules}
 use Prim.Native.Nat.{◌-◌}
 use native.Mathlib.Omega.{arith}
 use mathlib.Core.Path.{sym, ◌∙◌}
-use borrow.Author.Tests.{not-true, not-false}
 use Rattle.model.specs.Hall.{max_entries}
 use Rattle.store.specs.CellForms.{entry_form}
 use Rattle.store.specs.Layout.{entry_cells, recorders_at}
@@ -20,14 +19,14 @@ returns-then-not-valid_entry c =
     let a = c.args in
     sym
     (cells-fail (entry_form a.n) entry_cells a.m a.b.now max_entries recorders_at (search rules) (omega arith) c.loop-i.i c.loop-i-test.true
-    (sym c.valid_entry.ensures ∙ not-true c.valid_entry.result c.if-not-valid_entry.true) c.loop-i.invariant.1)
+    (sym c.valid_entry.ensures ∙ c.if-not-valid_entry.true) c.loop-i.invariant.1)
 
 pub loop-i-preserved : goal.loop-i-preserved
 loop-i-preserved c =
     let a = c.args in (
       search rules,
       left-next (entry_form a.n) entry_cells a.m a.b.now c.loop-i.i c.loop-i-test.true
-          (sym c.valid_entry.ensures ∙ not-false c.valid_entry.result c.if-not-valid_entry.false) c.loop-i.invariant.1,
+          (sym c.valid_entry.ensures ∙ c.if-not-valid_entry.false) c.loop-i.invariant.1,
     )
 
 pub returns : goal.returns

@@ -3,7 +3,6 @@ use borrow.Author.Rules.{rules}
 use Prim.Native.Nat.{◌+◌, ◌-◌}
 use native.Mathlib.Omega.{arith}
 use mathlib.Core.Path.{sym, ◌∙◌}
-use borrow.Author.Tests.{not-true, not-false}
 use Rattle.model.specs.Hall.{max_queue}
 use Rattle.store.specs.CellForms.{queued_form}
 use Rattle.store.specs.Layout.{messages_size}
@@ -20,14 +19,14 @@ returns-then-not-valid_queued c =
     let a = c.args in
     sym
     (cells-fail queued_form a.at a.m a.b.now max_queue (a.at + messages_size) (search rules) (omega arith) c.loop-i.i c.loop-i-test.true
-    (sym c.valid_queued.ensures ∙ not-true c.valid_queued.result c.if-not-valid_queued.true) c.loop-i.invariant.1)
+    (sym c.valid_queued.ensures ∙ c.if-not-valid_queued.true) c.loop-i.invariant.1)
 
 pub loop-i-preserved : goal.loop-i-preserved
 loop-i-preserved c =
     let a = c.args in (
       search rules,
       left-next queued_form a.at a.m a.b.now c.loop-i.i c.loop-i-test.true
-          (sym c.valid_queued.ensures ∙ not-false c.valid_queued.result c.if-not-valid_queued.false) c.loop-i.invariant.1,
+          (sym c.valid_queued.ensures ∙ c.if-not-valid_queued.false) c.loop-i.invariant.1,
     )
 
 pub returns : goal.returns

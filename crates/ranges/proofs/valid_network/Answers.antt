@@ -3,7 +3,6 @@ use borrow.Author.Rules.{rules}
 use Prim.Native.Nat.{◌-◌}
 use native.Mathlib.Omega.{arith}
 use mathlib.Core.Path.{sym, ◌∙◌}
-use borrow.Author.Tests.{not-true, not-false}
 use Rattle.model.specs.Hall.{max_views, max_recorders}
 use Rattle.codec.specs.Cells.{cells}
 use Rattle.store.specs.CellForms.{endpoint_form}
@@ -21,14 +20,14 @@ returns-then-not-valid_row c =
     let a = c.args in
     sym
     (cells-fail (cells endpoint_form a.m max_views) network_at a.n a.b.now max_recorders queues_at (search rules) (omega arith) c.loop-i.i c.loop-i-test.true
-    (sym c.valid_row.ensures ∙ not-true c.valid_row.result c.if-not-valid_row.true) c.loop-i.invariant.1)
+    (sym c.valid_row.ensures ∙ c.if-not-valid_row.true) c.loop-i.invariant.1)
 
 pub loop-i-preserved : goal.loop-i-preserved
 loop-i-preserved c =
     let a = c.args in (
       search rules,
       left-next (cells endpoint_form a.m max_views) network_at a.n a.b.now c.loop-i.i c.loop-i-test.true
-          (sym c.valid_row.ensures ∙ not-false c.valid_row.result c.if-not-valid_row.false) c.loop-i.invariant.1,
+          (sym c.valid_row.ensures ∙ c.if-not-valid_row.false) c.loop-i.invariant.1,
     )
 
 pub returns : goal.returns

@@ -3,7 +3,6 @@ use borrow.Author.Rules.{rules}
 use Prim.Native.Nat.{◌-◌}
 use native.Mathlib.Omega.{arith}
 use mathlib.Core.Path.{sym, ◌∙◌}
-use borrow.Author.Tests.{not-true, not-false}
 use Rattle.model.specs.Hall.{max_views}
 use Rattle.store.specs.CellForms.{queue_form}
 use Rattle.store.specs.Layout.{queues_at, votes_at}
@@ -20,14 +19,14 @@ returns-then-not-valid_queue c =
     let a = c.args in
     sym
     (cells-fail queue_form queues_at a.m a.b.now max_views votes_at (search rules) (omega arith) c.loop-i.i c.loop-i-test.true
-    (sym c.valid_queue.ensures ∙ not-true c.valid_queue.result c.if-not-valid_queue.true) c.loop-i.invariant.1)
+    (sym c.valid_queue.ensures ∙ c.if-not-valid_queue.true) c.loop-i.invariant.1)
 
 pub loop-i-preserved : goal.loop-i-preserved
 loop-i-preserved c =
     let a = c.args in (
       search rules,
       left-next queue_form queues_at a.m a.b.now c.loop-i.i c.loop-i-test.true
-          (sym c.valid_queue.ensures ∙ not-false c.valid_queue.result c.if-not-valid_queue.false) c.loop-i.invariant.1,
+          (sym c.valid_queue.ensures ∙ c.if-not-valid_queue.false) c.loop-i.invariant.1,
     )
 
 pub returns : goal.returns

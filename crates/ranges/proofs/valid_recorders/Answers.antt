@@ -3,7 +3,6 @@ use borrow.Author.Rules.{rules}
 use Prim.Native.Nat.{◌-◌}
 use native.Mathlib.Omega.{arith}
 use mathlib.Core.Path.{sym, ◌∙◌}
-use borrow.Author.Tests.{not-true, not-false}
 use Rattle.model.specs.Hall.{max_recorders}
 use Rattle.store.specs.CellForms.{recorder_form}
 use Rattle.store.specs.Layout.{recorders_at, network_at}
@@ -20,14 +19,14 @@ returns-then-not-valid_recorder c =
     let a = c.args in
     sym
     (cells-fail recorder_form recorders_at a.n a.b.now max_recorders network_at (search rules) (omega arith) c.loop-i.i c.loop-i-test.true
-    (sym c.valid_recorder.ensures ∙ not-true c.valid_recorder.result c.if-not-valid_recorder.true) c.loop-i.invariant.1)
+    (sym c.valid_recorder.ensures ∙ c.if-not-valid_recorder.true) c.loop-i.invariant.1)
 
 pub loop-i-preserved : goal.loop-i-preserved
 loop-i-preserved c =
     let a = c.args in (
       search rules,
       left-next recorder_form recorders_at a.n a.b.now c.loop-i.i c.loop-i-test.true
-          (sym c.valid_recorder.ensures ∙ not-false c.valid_recorder.result c.if-not-valid_recorder.false) c.loop-i.invariant.1,
+          (sym c.valid_recorder.ensures ∙ c.if-not-valid_recorder.false) c.loop-i.invariant.1,
     )
 
 pub returns : goal.returns

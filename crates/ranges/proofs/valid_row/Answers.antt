@@ -3,7 +3,6 @@ use borrow.Author.Rules.{rules}
 use Prim.Native.Nat.{◌+◌, ◌-◌}
 use native.Mathlib.Omega.{arith}
 use mathlib.Core.Path.{sym, ◌∙◌}
-use borrow.Author.Tests.{not-true, not-false}
 use Rattle.model.specs.Hall.{max_views}
 use Rattle.store.specs.CellForms.{endpoint_form}
 use Rattle.store.specs.Layout.{row_size}
@@ -20,14 +19,14 @@ returns-then-not-valid_endpoint c =
     let a = c.args in
     sym
     (cells-fail endpoint_form a.at a.m a.b.now max_views (a.at + row_size) (search rules) (omega arith) c.loop-i.i c.loop-i-test.true
-    (sym c.valid_endpoint.ensures ∙ not-true c.valid_endpoint.result c.if-not-valid_endpoint.true) c.loop-i.invariant.1)
+    (sym c.valid_endpoint.ensures ∙ c.if-not-valid_endpoint.true) c.loop-i.invariant.1)
 
 pub loop-i-preserved : goal.loop-i-preserved
 loop-i-preserved c =
     let a = c.args in (
       search rules,
       left-next endpoint_form a.at a.m a.b.now c.loop-i.i c.loop-i-test.true
-          (sym c.valid_endpoint.ensures ∙ not-false c.valid_endpoint.result c.if-not-valid_endpoint.false) c.loop-i.invariant.1,
+          (sym c.valid_endpoint.ensures ∙ c.if-not-valid_endpoint.false) c.loop-i.invariant.1,
     )
 
 pub returns : goal.returns

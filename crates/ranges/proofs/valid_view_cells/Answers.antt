@@ -3,7 +3,6 @@ use borrow.Author.Rules.{rules}
 use Prim.Native.Nat.{◌-◌}
 use native.Mathlib.Omega.{arith}
 use mathlib.Core.Path.{sym, ◌∙◌}
-use borrow.Author.Tests.{not-true, not-false}
 use Rattle.model.specs.Hall.{max_views}
 use Rattle.store.specs.ViewForm.{view_form}
 use Rattle.store.specs.Layout.{view_cells, entries_at}
@@ -20,14 +19,14 @@ returns-then-not-valid_view c =
     let a = c.args in
     sym
     (cells-fail (view_form a.n) view_cells a.m a.b.now max_views entries_at (search rules) (omega arith) c.loop-i.i c.loop-i-test.true
-    (sym c.valid_view.ensures ∙ not-true c.valid_view.result c.if-not-valid_view.true) c.loop-i.invariant.1)
+    (sym c.valid_view.ensures ∙ c.if-not-valid_view.true) c.loop-i.invariant.1)
 
 pub loop-i-preserved : goal.loop-i-preserved
 loop-i-preserved c =
     let a = c.args in (
       search rules,
       left-next (view_form a.n) view_cells a.m a.b.now c.loop-i.i c.loop-i-test.true
-          (sym c.valid_view.ensures ∙ not-false c.valid_view.result c.if-not-valid_view.false) c.loop-i.invariant.1,
+          (sym c.valid_view.ensures ∙ c.if-not-valid_view.false) c.loop-i.invariant.1,
     )
 
 pub returns : goal.returns

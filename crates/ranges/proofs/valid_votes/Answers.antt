@@ -3,7 +3,6 @@ use borrow.Author.Rules.{rules}
 use Prim.Native.Nat.{◌-◌}
 use native.Mathlib.Omega.{arith}
 use mathlib.Core.Path.{sym, ◌∙◌}
-use borrow.Author.Tests.{not-true, not-false}
 use Rattle.model.specs.Hall.{max_recorders}
 use Rattle.store.specs.CellForms.{vote_form}
 use Rattle.store.specs.Layout.{votes_at, stored_length}
@@ -20,14 +19,14 @@ returns-then-not-valid_vote c =
     let a = c.args in
     sym
     (cells-fail vote_form votes_at a.n a.b.now max_recorders stored_length (search rules) (omega arith) c.loop-i.i c.loop-i-test.true
-    (sym c.valid_vote.ensures ∙ not-true c.valid_vote.result c.if-not-valid_vote.true) c.loop-i.invariant.1)
+    (sym c.valid_vote.ensures ∙ c.if-not-valid_vote.true) c.loop-i.invariant.1)
 
 pub loop-i-preserved : goal.loop-i-preserved
 loop-i-preserved c =
     let a = c.args in (
       search rules,
       left-next vote_form votes_at a.n a.b.now c.loop-i.i c.loop-i-test.true
-          (sym c.valid_vote.ensures ∙ not-false c.valid_vote.result c.if-not-valid_vote.false) c.loop-i.invariant.1,
+          (sym c.valid_vote.ensures ∙ c.if-not-valid_vote.false) c.loop-i.invariant.1,
     )
 
 pub returns : goal.returns
