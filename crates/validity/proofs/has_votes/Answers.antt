@@ -1,0 +1,10 @@
+-- The bytes of the votes are zeros just if there are none. Assumes nothing.
+use mathlib.Core.Path.{ap, ◌∙◌}
+use mathlib.Core.Bool.{not}
+use Rattle.validity.proofs.RawHallLaws.{some-votes}
+use Rattle.validity.proofs.has_votes.Goals as goal
+
+pub returns : goal.returns
+returns c =
+    let s = c.before.before.before in
+    ap not c.is_zero.ensures ∙ some-votes s.args.b.now s.requires.held
