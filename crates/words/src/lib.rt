@@ -2,6 +2,7 @@
 // refusals come in turn. For the crates of this repository: a `requires` is met by each caller's proof.
 
 #![tactic(auto)]
+
 ghost use Rattle.std.specs.Prelude.{◌≡◌, not, ◌^◌, ◌≤◌, leb};
 ghost use Rattle.base.specs.Numbers.{within};
 ghost use Rattle.base.specs.Chains.{refuse, ◌⨾◌};
@@ -18,7 +19,7 @@ use quorum::wrong_row;
 const RECORDERS: u32 = MAX_RECORDERS as u32;
 
 // What a kind uses a word for: nothing (it is 0), any word, a recorder 1 to N, a view number, the set of a new view.
-#[derive(Drop)]
+#[derive(Clone, Copy, Drop)]
 pub enum Use {
     Unused,
     Word,
@@ -28,7 +29,7 @@ pub enum Use {
 }
 
 // How a kind uses R, A and B.
-#[derive(Drop)]
+#[derive(Clone, Copy, Drop)]
 pub struct Uses(pub Use, pub Use, pub Use);
 
 // The table of kinds, the model's row by row. "Form view A with set B (R is 0)."
