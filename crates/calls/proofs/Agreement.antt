@@ -12,8 +12,8 @@ use lib.ListN.{length, drop}
 use lib.Seq.{sets, sets-eq}
 use borrow.Author.Tests.{eqb-true, eqb-false, eq-eqb, ne_eqb, ltb-true, ltb-false}
 use Rattle.base.proofs.Bools.{by_cases, and-true}
-use Rattle.model.specs.Hall.{Entries, Hall, Payload}
-use Rattle.model.specs.Answers.{Answer, from, Plain, plain, accepted}
+use Rattle.model.specs.Hall.{Hall, Payload}
+use Rattle.model.specs.Answers.{Answer, from, plain, accepted}
 use Rattle.model.specs.Refusals.{order_at}
 use Rattle.model.specs.Opening.{Opening}
 use Rattle.model.specs.Call.{Words, WordsIn, hl3, step}
@@ -24,14 +24,13 @@ use Rattle.model.proofs.Accepting.Accepted.{accepts-deliver}
 use Rattle.codec.specs.Bytes.{part, zeros}
 use Rattle.codec.specs.Number.{digits, value}
 use Rattle.codec.proofs.NumberLaws.{value-digits}
-use Rattle.store.specs.Valid.{PayloadIn, EntriesIn, ValidHall}
+use Rattle.store.specs.Valid.{PayloadIn, ValidHall}
 use Rattle.store.specs.StoredForm.{stored}
 use Rattle.store.proofs.KeepFacts.{inside?}
 use Rattle.store.proofs.KeepValid.{payloads-in}
-use Rattle.calls.specs.Calls.{step_on, open_on, run_on, settling_on, SettleOutcome, settle_on}
-use Rattle.calls.specs.Steps.{Steps}
-use Rattle.calls.specs.Lent.{answer_length, words_bytes, answer_bytes, with_answer, Lent, step_lent, settle_lent, Leaves}
-use Rattle.calls.specs.Histories.{Made, history_of, Opens, made_on, history_on, settle_made, StepCall, SettleCall, HallCall, steps, settles, StepsMet, step_words, steps_left, steps_made, LentStep, LentSettle, LentCall, LentMet, lent_words, lent_left, word_in, deliver_in, lent_made}
+use Rattle.calls.specs.Calls.{step_on, open_on, run_on, settling_on, settle_on}
+use Rattle.calls.specs.Lent.{answer_length, words_bytes, answer_bytes, with_answer, step_lent, settle_lent, Leaves}
+use Rattle.calls.specs.Histories.{Made, history_of, Opens, made_on, history_on, settle_made, HallCall, steps, settles, StepsMet, step_words, steps_left, steps_made, LentStep, LentSettle, LentCall, LentMet, lent_words, lent_left, word_in, deliver_in, lent_made}
 use Rattle.calls.proofs.RunLaw.{step-stored}
 use Rattle.calls.proofs.Refused.{lent-refused, lent-short, lent-done, lent-taken, refused-keeps}
 use Rattle.calls.proofs.SettleLaws.{settle-low}

@@ -10,17 +10,17 @@ use Rattle.base.specs.Chains.{refuse, ◌⨾◌}
 use Rattle.base.proofs.Bools.{by_cases}
 use Rattle.model.specs.Hall.{Hall}
 use Rattle.model.specs.Kinds.{Kind, submit, label, send_entry, send_summary, form, enter, place, receive, notice, confirm, deliver, KindWord, kind, no_kind, kind_of, input_refusal}
-use Rattle.model.specs.Answers.{Content, Answer, message, refused, Plain, plain}
+use Rattle.model.specs.Answers.{Content, message, refused, Plain, plain}
 use Rattle.model.specs.Refusals.{state_refusal, to_receive, to_notice}
 use Rattle.model.specs.Actions as actions
 use Rattle.model.specs.Actions.{perform}
 use Rattle.model.specs.Opening.{Opening}
-use Rattle.model.specs.Page.{PageAnswer, plain_page}
-use Rattle.model.specs.Call.{Words, hl3, Stored, hall}
+use Rattle.model.specs.Page.{plain_page}
+use Rattle.model.specs.Call.{Words, hl3}
 use Rattle.model.specs.Settle.{Settling, calls_taken, plain_settle}
-use Rattle.model.specs.RunFile.{read_file, read_answer, next_at, Writing, write_file}
+use Rattle.model.specs.RunFile.{read_file, read_answer, next_at, write_file}
 use Rattle.store.specs.StoredForm.{hall_of, is_stored}
-use Rattle.calls.specs.Calls.{with_hall, OpenOutcome, open_on, Outcome, step_on, page_on, run_on, settling_on, SettleOutcome, settle_on}
+use Rattle.calls.specs.Calls.{with_hall, open_on, Outcome, step_on, page_on, run_on, settling_on, settle_on}
 use Rattle.calls.specs.ByKind.{kind_on, give}
 use Rattle.calls.specs.Kept.{Keeps, RefusedKeeps}
 use Rattle.calls.specs.Lent.{answer_length, with_answer, Lent, lent_number, lent_call, step_lent, page_lent, settle_lent, Leaves}

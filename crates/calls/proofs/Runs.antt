@@ -12,10 +12,10 @@ use Rattle.base.proofs.Bools.{and_both}
 use Rattle.base.proofs.ListsLaws.{each_append}
 use Rattle.model.specs.Hall.{Hall}
 use Rattle.model.specs.Answers.{accepted}
-use Rattle.model.specs.Actions.{Outcome, payload_of}
+use Rattle.model.specs.Actions.{payload_of}
 use Rattle.model.specs.Opening.{Opening, open_refusal, opened}
 use Rattle.model.specs.Call.{Words, WordsIn, hl3, step}
-use Rattle.model.specs.Run.{run, accepts, collect, first_waiting, at_report, items_from, submitted, labelled_at, delivered, deliver_answers, History, history}
+use Rattle.model.specs.Run.{run, accepts, collect, first_waiting, at_report, items_from, submitted, labelled_at, delivered, deliver_answers, history}
 use Rattle.model.specs.Agreed.{Agreed}
 use Rattle.model.proofs.Agreement.Theorem.{hl3-agreement}
 use Rattle.model.proofs.Settling.SettleRun.{run-append}

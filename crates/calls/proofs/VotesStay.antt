@@ -12,7 +12,7 @@ use Rattle.base.specs.Lists.{has}
 use Rattle.base.specs.Numbers.{up_to}
 use Rattle.quorum.specs.Votes.{row_of, wrong_row}
 use Rattle.quorum.proofs.VoteLaws.{margin-range, row_listed}
-use Rattle.model.specs.Hall.{Service, Hall, max_recorders}
+use Rattle.model.specs.Hall.{Hall, max_recorders}
 use Rattle.model.specs.Opening.{Opening, row_in, open_hall, opened}
 use Rattle.model.specs.Refusals.{margin_of}
 use Rattle.model.specs.Call.{Words, WordsIn, hl3}
@@ -22,7 +22,6 @@ use Rattle.store.specs.Layout.{stored_length}
 use Rattle.store.specs.StoredForm.{stored, hall_of, is_stored}
 use Rattle.store.proofs.StoredFormLaws.{hall_of-stored, hall_of-valid, stored-hall_of}
 use Rattle.store.proofs.KeepRules.{facts-of}
-use Rattle.store.proofs.KeepFacts.{Facts}
 use Rattle.store.proofs.KeepValid.{run-valid, open-valid}
 use Rattle.store.proofs.VotePieces.{stored_row}
 use Rattle.calls.specs.Calls.{open_on, run_on, with_hall}

@@ -14,9 +14,9 @@ use Rattle.store.specs.StoredForm.{hall_of}
 use Rattle.answer.specs.declared.Answer.{Answer}
 use Rattle.answer.specs.declared.Settled.{Settled}
 use Rattle.answer.specs.Meaning.{meaning}
-use Rattle.calls.specs.Calls.{OpenOutcome, open_on, Outcome, step_on, run_on, settling_on}
+use Rattle.calls.specs.Calls.{open_on, step_on, run_on, settling_on}
 use Rattle.calls.specs.Steps.{Steps, Settles}
-use Rattle.calls.specs.Lent.{Lent, step_lent, settle_lent, Leaves}
+use Rattle.calls.specs.Lent.{step_lent, settle_lent, Leaves}
 
 -- A call that was made: its words, the hall's bytes that it was lent, whether it was accepted, what it answered, and the
 -- hall's bytes that it left.

@@ -3,12 +3,12 @@
 -- `hall_run_read` and `hall_run_action` a file.
 -- Assumes nothing.
 use Rattle.std.specs.Prelude.{ℕ, ◌≡◌, List}
-use Rattle.model.specs.Answers.{Plain, plain}
+use Rattle.model.specs.Answers.{plain}
 use Rattle.model.specs.Opening.{Opening}
 use Rattle.model.specs.Call.{Words}
 use Rattle.model.specs.RunFile.{RunText}
-use Rattle.calls.specs.Calls.{OpenOutcome, open_on, Outcome, step_on, SettleOutcome, settle_on}
-use Rattle.calls.specs.Lent.{Lent, step_lent, page_lent, settle_lent}
+use Rattle.calls.specs.Calls.{open_on, step_on, settle_on}
+use Rattle.calls.specs.Lent.{step_lent, page_lent, settle_lent}
 use Rattle.calls.specs.RunsLent.{run_read_lent, run_action_lent, run_write_lent}
 
 -- a call that returned the number n keeps the lent bytes if it is refused

@@ -7,7 +7,7 @@ use Rattle.model.specs.Page.{plain_page}
 use Rattle.model.specs.Call.{Words}
 use Rattle.codec.specs.Bytes.{zeros}
 use Rattle.codec.specs.Number.{digits}
-use Rattle.calls.specs.Calls.{Outcome, step_on, page_on, SettleOutcome, settle_on}
+use Rattle.calls.specs.Calls.{step_on, page_on, settle_on}
 
 -- an answer slice has sixteen words of four bytes
 abbrev pub answer_length : ℕ

@@ -2,7 +2,7 @@
 -- Assumes nothing.
 use Rattle.std.specs.Prelude.{ℕ, ◌^◌, ◌/◌, ◌%◌, List, [], ◌∷◌, ◌++◌}
 use Rattle.model.specs.Answers.{Plain}
-use Rattle.model.specs.RunFile.{FileOpening, RunText, read_file, read_answer, next_at, write_file}
+use Rattle.model.specs.RunFile.{RunText, read_file, read_answer, next_at, write_file}
 use Rattle.model.specs.RunFile.{ReadAnswer, opened, NextAnswer, action, end, WriteAnswer, written}
 use Rattle.calls.specs.Lent.{Lent, taken, lent_call}
 

@@ -6,7 +6,7 @@ use Rattle.model.specs.Call.{words_of}
 use Rattle.answer.specs.declared.Answer.{Answer}
 use Rattle.answer.specs.declared.Settled.{Settled}
 use Rattle.answer.specs.Meaning.{meaning, settled_meaning}
-use Rattle.calls.specs.Calls.{Outcome, step_on, SettleOutcome, settle_on}
+use Rattle.calls.specs.Calls.{step_on, settle_on}
 
 -- the answer x and the bytes c are those of the step's definition on the bytes b
 pub record Steps (b : List ℕ) (k r a d : ℕ) (x : Answer) (c : List ℕ) : Type 0 where

@@ -2,6 +2,7 @@
 // functions are for the crates of this repository: a `requires` is met by each caller's proof.
 
 #![tactic(auto)]
+
 ghost use Rattle.std.specs.Prelude.{[], ◌∷◌};
 ghost use Rattle.model.specs.Payloads.{payload_meaning};
 ghost use Rattle.model.specs.Answers.{message};

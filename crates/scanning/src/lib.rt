@@ -2,6 +2,7 @@
 // `story`). For the crates of this repository: a `requires` is met by each caller's proof.
 
 #![tactic(auto)]
+
 ghost use Rattle.std.specs.Prelude.{◌≡◌, true, false, ◌+◌, ◌≤◌, ◌<◌, length, drop};
 ghost use Rattle.codec.specs.Bytes.{same_bytes};
 ghost use Rattle.story.specs.Fields.{is_blank, is_end, is_break, line_length};

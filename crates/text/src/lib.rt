@@ -2,6 +2,7 @@
 // the lengths of such text. These functions are for the crates of this repository: a `requires` is met by each caller's proof.
 
 #![tactic(auto)]
+
 ghost use Rattle.std.specs.Prelude.{[], ◌∷◌};
 ghost use Rattle.model.specs.Listing.{decimal};
 ghost use Rattle.text.specs.Text.{Room, Wrote, Sized};

@@ -2,6 +2,7 @@
 // refusals come in turn. For the crates of this repository: a `requires` is met by each caller's proof.
 
 #![tactic(auto)]
+
 ghost use Rattle.std.specs.Prelude.{◌≡◌, not, ◌^◌, ◌≤◌, leb};
 ghost use Rattle.base.specs.Numbers.{within};
 ghost use Rattle.base.specs.Chains.{refuse, ◌⨾◌};
