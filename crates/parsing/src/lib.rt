@@ -1,6 +1,7 @@
 // Reads a line of the text form of a run (the crate `story`): its fields one after another, by their offsets in the text.
 
 #![tactic(auto)]
+
 ghost use Rattle.std.specs.Prelude.{◌≡◌, ◌+◌, ◌≤◌, length, drop};
 ghost use Rattle.base.specs.Lists.{is_empty};
 ghost use Rattle.model.specs.Kinds.{last_kind, uses};

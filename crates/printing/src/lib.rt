@@ -2,6 +2,7 @@
 // that write into a lent buffer are for this crate alone: a `requires` is met by each caller's proof.
 
 #![tactic(auto)]
+
 ghost use Rattle.std.specs.Prelude.{◌≡◌, [], ◌∷◌, ◌-◌, ◌%◌, ◌^◌, ◌≤◌, eqb};
 ghost use Rattle.model.specs.Kinds.{last_kind};
 ghost use Rattle.model.specs.Call.{words_of};
