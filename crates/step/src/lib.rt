@@ -2,6 +2,7 @@
 // that a step would answer with, judged alone.
 
 #![tactic(auto)]
+
 ghost use Rattle.std.specs.Prelude.{◌≡◌, true, ◌≤◌};
 ghost use Rattle.base.specs.Chains.{◌⨾◌};
 ghost use Rattle.model.specs.Hall.{max_recorders};
