@@ -2,6 +2,7 @@
 // recorder first, in the view with the greatest number. The work goes on a copy, since 40 leaves all bytes as at the start.
 
 #![tactic(auto)]
+
 ghost use Rattle.std.specs.Prelude.{◌≡◌, true, ◌||◌, map, ◌≤◌, eqb, length};
 ghost use Rattle.base.specs.Chains.{refuse};
 ghost use Rattle.quorum.specs.Sets.{members};

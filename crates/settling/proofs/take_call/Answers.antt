@@ -1,0 +1,13 @@
+-- The step of the call. Assumes nothing.
+use mathlib.Core.Path.{ap, ◌∙◌}
+use Rattle.model.specs.Call.{words_of}
+use Rattle.model.specs.Settle.{settle_call}
+use Rattle.calls.specs.Calls.{step_on}
+use Rattle.settling.proofs.take_call.Goals as goal
+
+pub returns : goal.returns
+unfolding settle_call
+returns c =
+    let a = c.args in
+    c.step_hall.ensures.bytes
+    ∙ ap (λ w. (step_on a.work.now (words_of a.k a.r w 0)).bytes) c.view_word-a.ensures
