@@ -1,13 +1,12 @@
 -- What an answer of the code means, by cases. "For an answer that is an enum, a definition gives this paper's number and
 -- values for each of its cases." Assumes nothing.
-use Rattle.std.specs.Prelude.{◌≡◌, List, [], ◌∷◌}
+use Rattle.std.specs.Prelude.{◌≡◌, [], ◌∷◌}
 use Rattle.model.specs.Payloads.{payload_meaning}
 use Rattle.model.specs.Answers as model
 use Rattle.model.specs.Answers.{Plain, plain}
 use Rattle.model.specs.Page as model_page
 use Rattle.model.specs.Page.{plain_page}
 use Rattle.answer.specs.declared.Content.{Content}
-use Rattle.answer.specs.declared.Message.{Message}
 use Rattle.answer.specs.declared.Answer.{Answer}
 use Rattle.answer.specs.declared.PlainAnswer.{PlainAnswer}
 use Rattle.answer.specs.declared.Page.{Page}

@@ -10,7 +10,7 @@ use lib.ListN.{length, get_or}
 use borrow.Author.Tests.{le-leb, leb-true}
 use Rattle.base.specs.Lists.{bit}
 use Rattle.codec.specs.Bytes.{Block, part}
-use Rattle.codec.specs.Form.{Form, mapped}
+use Rattle.codec.specs.Form.{mapped}
 use Rattle.codec.specs.Number.{digits, value, between, number, word, byte, mark, flag}
 use Rattle.codec.proofs.BytesLaws.{part-cons}
 use Rattle.codec.proofs.FormLaws.{Lawful, mapped-lawful}

@@ -9,7 +9,7 @@ use lib.Pow.{are_bytes}
 use lib.ListN.{length, get_or, take, drop, length-append, length-take, take-append-drop}
 use lib.Seq.{sets, sets-eq, take-append-le, drop-append-le, take-append-add, drop-append-add, take_at, take-take}
 use borrow.Author.Tests.{leb-true, le-leb, ltb-true, lt-ltb}
-use Rattle.codec.specs.Bytes.{Block, part}
+use Rattle.codec.specs.Bytes.{part}
 use Rattle.codec.proofs.BytesLaws.{part-take}
 use Rattle.codec.specs.Form.{Form}
 use Rattle.codec.proofs.FormLaws.{Lawful}

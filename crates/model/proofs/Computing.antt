@@ -7,7 +7,6 @@ use Rattle.base.specs.Chains
 use Rattle.base.specs.Numbers
 use Rattle.quorum.specs.Sets
 use Rattle.quorum.specs.Votes
-use Rattle.model.specs.Hall
 use Rattle.model.specs.Service
 use Rattle.model.specs.Ordering
 use Rattle.model.specs.Kinds

@@ -13,7 +13,7 @@ use Rattle.model.specs.Actions.{Outcome}
 use Rattle.model.specs.Opening.{opened}
 use Rattle.model.specs.Call.{Words, hl3, step}
 use Rattle.model.specs.Run.{answers}
-use Rattle.model.specs.RunFile.{FileOpening, opening_in, RunText, Reading, read_file, file_bytes}
+use Rattle.model.specs.RunFile.{opening_in, RunText, Reading, read_file, file_bytes}
 use Rattle.model.specs.Listing.{line, hall-word, decimal, action_line, end_line, action_lines, run_lines, listing}
 use Rattle.model.specs.Cards.{up_to_confirm, listing_run}
 use Rattle.model.proofs.Computing.{computing}

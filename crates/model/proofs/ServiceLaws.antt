@@ -5,7 +5,7 @@ use mathlib.Core.Path.{◌≡◌, ap}
 use mathlib.Core.List.{List, [], ◌∷◌, ◌++◌}
 use Rattle.base.specs.Lists.{nth, rest}
 use Rattle.base.specs.Update.{upd, upd₂}
-use Rattle.model.specs.Hall.{Message, Message.entry, Queued, Service}
+use Rattle.model.specs.Hall.{Message, Service}
 use Rattle.model.specs.Service.{vs_order}
 
 -- placing the head m of r's pending list of a

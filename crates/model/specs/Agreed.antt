@@ -2,7 +2,7 @@
 -- Assumes nothing.
 use Rattle.std.specs.Prelude.{ℕ, ◌-◌, ◌≤◌, ◌≡◌, ◌⊎◌, true, List, ◌∷◌, map, length}
 use Rattle.base.specs.Lists.{has, Begins}
-use Rattle.model.specs.Hall.{Summary, Hall, Recorders}
+use Rattle.model.specs.Hall.{Summary}
 use Rattle.model.specs.Ordering.{Choice}
 use Rattle.model.specs.Answers.{from}
 use Rattle.model.specs.Refusals.{Rules}

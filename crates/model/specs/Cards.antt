@@ -4,7 +4,6 @@
 use Rattle.std.specs.Prelude.{ℕ, true, false, List, [], ◌∷◌, ◌++◌, map, length, replicate}
 use Rattle.quorum.specs.Sets.{in_mask}
 use Rattle.quorum.specs.Votes.{margin, quorum, built_in}
-use Rattle.model.specs.Hall.{Entries, Service, Recorders, Hall}
 use Rattle.model.specs.Ordering.{Choice, greatest_numbered, chosen}
 use Rattle.model.specs.Answers.{plain, word}
 use Rattle.model.specs.Refusals.{rules_of}
@@ -12,7 +11,7 @@ use Rattle.model.specs.Opening.{Opening, opening_of, built_in_opening, open_refu
 use Rattle.model.specs.Call.{Words, words_of, hl3, broken, step, call}
 use Rattle.model.specs.Run.{run, answers}
 use Rattle.model.specs.Settle.{settle, plain_settle, action, settling, run_calls}
-use Rattle.model.specs.RunFile.{FileOpening, row_given, RunText, file_bytes}
+use Rattle.model.specs.RunFile.{row_given, RunText, file_bytes}
 use Rattle.model.specs.Listing.{listing}
 
 pub record Card : Type 0 where

@@ -5,7 +5,7 @@ use Rattle.model.specs.Answers.{Answer, accepted}
 use Rattle.model.specs.Opening.{opened}
 use Rattle.model.specs.Call.{hl3}
 use Rattle.model.specs.Run.{answers}
-use Rattle.model.specs.RunFile.{FileOpening, opening_in, RunText, Reading, read_file}
+use Rattle.model.specs.RunFile.{opening_in, RunText, Reading, read_file}
 use Rattle.model.specs.Listing.{line, hall-word, decimal, end_line, action_lines, refused_line}
 
 -- how many of the answers are accepted, and how many refused

@@ -6,7 +6,6 @@ use Rattle.base.specs.Lists.{greatest, has}
 use Rattle.model.specs.Hall.{Hall}
 use Rattle.model.specs.Answers.{Plain, plain, accepted}
 use Rattle.model.specs.Refusals.{Rules, is_primary}
-use Rattle.model.specs.Actions.{Outcome}
 use Rattle.model.specs.Call.{Words, words_of, step}
 use Rattle.model.specs.Run.{run, of_items, History}
 

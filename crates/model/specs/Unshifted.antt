@@ -3,7 +3,7 @@
 -- Assumes nothing.
 use Rattle.std.specs.Prelude.{ℕ, ◌<◌, ◌≡◌, ◌⊎◌, true}
 use Rattle.base.specs.Lists.{has, Begins}
-use Rattle.model.specs.Hall.{Service, Summary, Summaries, Recorders, Hall}
+use Rattle.model.specs.Hall.{Hall}
 
 -- a member of p's view has sent in it a summary with a greater highest primary than p's own
 pub record Overtaken (h : Hall) (p : ℕ) : Type 0 where

@@ -9,7 +9,7 @@ use Rattle.store.specs.Layout.{stored_length}
 use Rattle.store.specs.Valid.{ValidHall}
 use Rattle.store.specs.StoredForm.{stored, hall_of, is_stored}
 use Rattle.store.proofs.StoredFormLaws.{stored-is_stored, hall_of-stored, hall_of-valid, stored-hall_of}
-use Rattle.store.specs.Exact.{Begun, SomeBegun, StoredExactly}
+use Rattle.store.specs.Exact.{StoredExactly}
 
 -- the form, then the rest of the slice
 whole : (b : List ℕ) (h : Hall) → take stored_length b ≡ stored h → stored h ++ drop stored_length b ≡ b

@@ -16,7 +16,7 @@ use Rattle.codec.specs.Number.{number}
 use Rattle.codec.specs.Pair.{given}
 use Rattle.codec.specs.Table.{Tabled, table}
 use Rattle.codec.proofs.TableLaws.{all-keys, each-key}
-use Rattle.store.specs.Valid.{QueueIn, VotesIn, InRange, ValidHall}
+use Rattle.store.specs.Valid.{QueueIn, InRange, ValidHall}
 use Rattle.store.specs.Cells.{RecorderCell, blank_recorder, recorder_at, EndpointCell, blank_endpoint, endpoint_at}
 use Rattle.store.specs.CellForms.{recorder_form, endpoint_form, queue_form, vote_form}
 use Rattle.store.specs.ViewForm.{views_form}

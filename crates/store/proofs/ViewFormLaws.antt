@@ -13,7 +13,7 @@ use Rattle.base.proofs.Bools.{by_cases}
 use Rattle.quorum.specs.Sets.{members, mask}
 use Rattle.quorum.proofs.SetLaws.{mask-members}
 use Rattle.model.specs.Hall.{max_views, max_number}
-use Rattle.codec.specs.Form.{Form, mapped, guarded}
+use Rattle.codec.specs.Form.{mapped, guarded}
 use Rattle.codec.specs.Number.{digits, number}
 use Rattle.codec.specs.Pair.{given}
 use Rattle.codec.specs.Table.{lookup}
@@ -24,7 +24,6 @@ use Rattle.codec.proofs.FormLaws.{Lawful, Inverse, mapped-lawful, guarded-lawful
 use Rattle.codec.proofs.PairLaws.{pair-lawful}
 use Rattle.codec.proofs.BoundedLaws.{bounded-lawful}
 use Rattle.store.specs.Layout.{number_size}
-use Rattle.store.specs.Valid.{ViewsIn}
 use Rattle.store.specs.Masks.{set_form, SetOf}
 use Rattle.store.specs.ViewForm.{view_form, view_list, views_form, numbers_of, sets_of, numbers_rise, Views, to_views, from_views, ViewsOk}
 use Rattle.store.proofs.MasksLaws.{set-lawful}

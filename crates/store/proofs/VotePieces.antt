@@ -17,10 +17,10 @@ use Rattle.model.specs.Hall.{Hall, max_recorders}
 use Rattle.model.specs.Opening.{row_in}
 use Rattle.codec.specs.Form.{mapped}
 use Rattle.codec.specs.Table.{table}
-use Rattle.codec.proofs.Piece.{View, Piece, inner-view, restated-view}
+use Rattle.codec.proofs.Piece.{View, inner-view, restated-view}
 use Rattle.codec.proofs.TableLaws.{at_key, numbers-distinct, index-numbers, table-grow}
 use Rattle.store.specs.Layout.{votes_at, word_size}
-use Rattle.store.specs.Valid.{VotesIn, InRange, ValidHall}
+use Rattle.store.specs.Valid.{InRange, ValidHall}
 use Rattle.store.specs.CellForms.{vote_form}
 use Rattle.store.specs.HallForm.{votes_form, hall_fields}
 use Rattle.store.proofs.CellFormsLaws.{vote-lawful}
@@ -29,7 +29,6 @@ use Rattle.store.proofs.HallOk.{fields-ok}
 use Rattle.store.proofs.VoteRows.{vote-zeros, votes-small}
 use Rattle.store.proofs.Pieces.{votes-view}
 use Rattle.store.proofs.KeepRules.{facts-of}
-use Rattle.store.proofs.KeepFacts.{Facts}
 
 -- cells of recorders above n are blank, so the form of more recorders has the same bytes
 pub wide : (votes : ℕ → ℕ) (n m : ℕ) → n + m ≤ max_recorders → ((r : ℕ) → n < r → votes r ≡ 0)

@@ -1,5 +1,5 @@
 -- The invariant: the sum is the count of those passed. Assumes nothing.
-use Prim.Native.Nat.{ℕ, ◌-◌}
+use Prim.Native.Nat.{ℕ}
 use native.Mathlib.Omega.{arith}
 use mir.Val.{bool_byte}
 use mathlib.Core.Bool.{Bool, true, false}

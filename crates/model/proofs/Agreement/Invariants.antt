@@ -8,7 +8,7 @@ use mathlib.Core.Bool.{Bool, true, false}
 use mathlib.Core.List.{List, [], ◌++◌}
 use lib.ListN.{length, take}
 use Rattle.base.specs.Lists.{has, Begins}
-use Rattle.model.specs.Hall.{Entries, Message, Queued, Service, Summary, Summaries, Phase, normal, send, collect, Recorders, Hall}
+use Rattle.model.specs.Hall.{Entries, Message, Queued, Summary, Phase, normal, send, collect, Hall}
 use Rattle.model.specs.Refusals.{Rules, is_primary}
 use Rattle.model.proofs.Agreement.State.{entries_in, entries_from, summary_in, entries_of, has_summary, received, noticed, Est, full, built}
 use Rattle.model.proofs.Ordering.Labels.{Labelled, Before, InRow, Tidy}

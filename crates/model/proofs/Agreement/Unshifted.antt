@@ -15,7 +15,7 @@ use Rattle.base.proofs.ListsLaws.{has-none, in-filter}
 use Rattle.base.proofs.Greatest.{greatest-above, tops-in}
 use Rattle.base.proofs.Bools.{by_cases, not-both}
 use Rattle.base.proofs.Begins.{begins-refl, begins-trans, begins-append, begins-both, begins-nil, begins-more, begins-whole}
-use Rattle.model.specs.Hall.{Message, Service, Summary, Summaries, Recorders, Hall}
+use Rattle.model.specs.Hall.{Message, Summary, Hall}
 use Rattle.model.specs.Ordering.{completes, maxprimary, reps, longest_order, chosen}
 use Rattle.model.specs.Answers.{accepted}
 use Rattle.model.specs.Refusals.{Rules, rules_of, summaries_of}

@@ -9,9 +9,8 @@ use mathlib.Core.List.{List, [], ◌∷◌, ◌++◌}
 use lib.Dec.{eqb}
 use borrow.Author.Tests.{eq-eqb}
 use Rattle.model.specs.Hall.{Hall}
-use Rattle.model.specs.Answers.{Answer, accepted}
+use Rattle.model.specs.Answers.{accepted}
 use Rattle.model.specs.Refusals.{Rules}
-use Rattle.model.specs.Actions.{Outcome}
 use Rattle.model.specs.Opening.{Opening, open_refusal, opened}
 use Rattle.model.specs.Call.{Words, WordsIn, step}
 use Rattle.model.specs.Run.{run, history}

@@ -10,9 +10,8 @@ use borrow.Author.Tests.{eqb-true, eqb-false}
 use Rattle.base.specs.Lists.{has, Each}
 use Rattle.base.proofs.ListsLaws.{has-cons, has-none, has-head, has-later, each_append, each_left, each_right}
 use Rattle.model.specs.Hall.{Hall}
-use Rattle.model.specs.Answers.{plain, accepted}
+use Rattle.model.specs.Answers.{plain}
 use Rattle.model.specs.Refusals.{Rules}
-use Rattle.model.specs.Actions.{Outcome}
 use Rattle.model.specs.Call.{Words, step}
 use Rattle.model.specs.Settle.{settle_kinds, settle_call, calls_under, settle_calls, is_in_view, Turn, takes, full, none, tried, turn}
 

@@ -3,15 +3,14 @@
 use Prim.Native.Nat.{ℕ}
 use mathlib.Core.Path.{◌≡◌, refl, sym, ◌∙◌, subst}
 use mathlib.Core.Logic.{⊎_elim}
-use mathlib.Core.Bool.{Bool, true, false, false≢true}
-use mathlib.Core.List.{List}
+use mathlib.Core.Bool.{true, false≢true}
 use Rattle.base.specs.Lists.{has}
-use Rattle.model.specs.Hall.{Service, Hall}
+use Rattle.model.specs.Hall.{Hall}
 use Rattle.model.specs.Service.{newview, gpsnd, vs_order, gprcv, safe}
 use Rattle.model.specs.Refusals.{Rules}
 use Rattle.model.specs.Kinds.{Kind, submit, label, send_entry, send_summary, form, enter, place, receive, notice, confirm, deliver}
 use Rattle.model.specs.Actions.{Outcome, do_submit, do_label, do_send_entry, do_send_summary, do_form, do_enter, do_place, do_receive, do_notice, do_confirm, do_deliver, perform}
-use Rattle.model.specs.Call.{Words, step}
+use Rattle.model.specs.Call.{step}
 use Rattle.model.specs.Settle.{greatest_view, settle_kinds, settle_call}
 use Rattle.model.proofs.Accepting.Performed.{number_of}
 use Rattle.model.proofs.Accepting.Accepted.{performed-or-refused}

@@ -1,6 +1,6 @@
 -- The invariant: the views left rise above the last number just where all rise. Assumes nothing.
 use borrow.Author.Rules.{rules}
-use Prim.Native.Nat.{ℕ, ◌+◌, ◌-◌, ◌≤◌, ◌<◌}
+use Prim.Native.Nat.{ℕ, ◌+◌, ◌≤◌, ◌<◌}
 use mathlib.Core.Path.{sym, subst}
 use Rattle.ranges.proofs.TablePartsLaws.{Rises, rises-start, rises_next, rises-fail, rises-done}
 use Rattle.ranges.proofs.views_rise.Goals as goal
