@@ -25,7 +25,7 @@ loop-i-preserved c =
     let vs = a.actions.now in
     let e = c.step_hall.ensures.bytes in (
       search rules,
-      ap is_stored e ∙ step-holds l.hall l.invariant.1 _ (c.shared_slice_known-1.given (4 * l.i + 2)).fits,
+      ap is_stored e ∙ step-holds l.hall l.invariant.1 _ (c.type_inv.actions (4 * l.i + 2)).fits,
       c.step_hall.auto.bytes ∙ l.invariant.2,
       run-next a.hall.now vs l.i (omega arith) l.hall _ l.invariant.3 e,
     )

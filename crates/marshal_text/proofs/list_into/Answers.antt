@@ -18,7 +18,7 @@ pub overflow_cast-length : goal.overflow_cast-length
 overflow_cast-length c =
     let a = c.args in
     let x = c.list_run-listed in
-    omega (arith, list_length a.file.now a.hall.now a.text.now a.out.now x.result _ _ x.ensures (λ i. (c.shared_slice_known-1.given i).fits))
+    omega (arith, list_length a.file.now a.hall.now a.text.now a.out.now x.result _ _ x.ensures (λ i. (c.type_inv.file i).fits))
 
 pub returns : goal.returns
 returns c =

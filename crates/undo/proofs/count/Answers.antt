@@ -8,7 +8,7 @@ pub bounds-u-0 : goal.bounds-u-0
 bounds-u-0 c = omega (arith, long-enough c.args.u.now c.requires)
 
 pub overflow_cast-result : goal.overflow_cast-result
-overflow_cast-result c = omega (arith, c.shared_slice_known-1.given 0)
+overflow_cast-result c = omega (arith, c.type_inv.u 0)
 
 pub returns : goal.returns
 returns c =

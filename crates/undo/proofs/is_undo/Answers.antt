@@ -8,15 +8,15 @@ pub returns-then-u-lt-LENGTH : goal.returns-then-u-lt-LENGTH
 returns-then-u-lt-LENGTH c = sym (undo-short c.args.u.now c.if-u-lt-LENGTH.true)
 
 pub overflow_cast-m : goal.overflow_cast-m
-overflow_cast-m c = omega (arith, c.shared_slice_known-2-1.given 0)
+overflow_cast-m c = omega (arith, c.type_inv.u 0)
 
 pub returns-then-m-gt-SLOTS : goal.returns-then-m-gt-SLOTS
 returns-then-m-gt-SLOTS c =
     let start = c in
-    sym (undo-over start.args.u.now c.if-u-lt-LENGTH.false (λ i. (c.shared_slice_known-1.given i).fits) c.if-m-gt-SLOTS.true)
+    sym (undo-over start.args.u.now c.if-u-lt-LENGTH.false (λ i. (c.type_inv.u i).fits) c.if-m-gt-SLOTS.true)
 
 pub returns : goal.returns
 returns c =
     let start = c in
     c.valid_slots.ensures
-    ∙ sym (undo-slots start.args.u.now c.if-u-lt-LENGTH.false (λ i. (c.shared_slice_known-1.given i).fits) c.if-m-gt-SLOTS.false)
+    ∙ sym (undo-slots start.args.u.now c.if-u-lt-LENGTH.false (λ i. (c.type_inv.u i).fits) c.if-m-gt-SLOTS.false)

@@ -10,7 +10,7 @@ pub returns : goal.returns
 returns c s e =
     let start = c in
     let at = c.newest_at-at in
-    let k : Bytes start.args.u.now = λ i. (c.shared_slice_known-1.given i).fits in
+    let k : Bytes start.args.u.now = λ i. (c.type_inv.u i).fits in
     words_same c.get_u32.ensures c.get_u32-2.ensures c.get_u32-3.ensures c.get_u32-4.ensures
     ∙ sym (slot-words at.result start.args.u.now at.ensures.room k)
     ∙ ap (λ (x : Slot). x.words) (some_same (sym at.ensures.slot ∙ e))

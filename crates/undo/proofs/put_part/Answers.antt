@@ -17,7 +17,7 @@ returns c =
     let start = c in
     let a = start.args in
     let b = a.b.now in
-    let k : Bytes b = λ i. (c.shared_slice_known-1.given i).fits in
+    let k : Bytes b = λ i. (c.type_inv.b i).fits in
     let inside : a.offset + a.size ≤ length b = omega (arith, start.requires.size_le_room.1) in
     c.clear.ensures
     ∙ ap (λ (z : List ℕ). sets z (a.at + 8 + a.size) (zeros (a.at + 8 + a.room - (a.at + 8 + a.size))))

@@ -13,7 +13,7 @@ returns-then-room-size c =
     let a = start.args in
     let u = a.u.now in
     let size : size_at u a.at ≡ c.get_u32-size.result = sym c.get_u32-size.ensures in
-    sym (part-over a.room a.at u start.requires.1 (λ i. (c.shared_slice_known-1.given i).fits) (omega (arith, size, c.if-room-size.true)))
+    sym (part-over a.room a.at u start.requires.1 (λ i. (c.type_inv.u i).fits) (omega (arith, size, c.if-room-size.true)))
 
 pub returns-then-offset-size-gt-LENGTH : goal.returns-then-offset-size-gt-LENGTH
 returns-then-offset-size-gt-LENGTH c =
@@ -23,7 +23,7 @@ returns-then-offset-size-gt-LENGTH c =
     let size : size_at u a.at ≡ c.get_u32-size.result = sym c.get_u32-size.ensures in
     let offset : offset_at u a.at ≡ c.get_u32-offset.result = sym c.get_u32-offset.ensures in
     sym
-    (part-past a.room a.at u start.requires.1 (λ i. (c.shared_slice_known-1.given i).fits)
+    (part-past a.room a.at u start.requires.1 (λ i. (c.type_inv.u i).fits)
     (omega (arith, size, c.if-room-size.false)) (omega (arith, size, offset, c.if-offset-size-gt-LENGTH.true)))
 
 pub returns : goal.returns
@@ -36,5 +36,5 @@ returns c =
     c.is_zero.ensures
     ∙ ap (λ (n : ℕ). all_zero (part (a.at + 8 + n) (a.at + 8 + a.room - (a.at + 8 + n)) u)) (sym size)
     ∙ sym
-    (part-zeros a.room a.at u start.requires.1 (λ i. (c.shared_slice_known-1.given i).fits)
+    (part-zeros a.room a.at u start.requires.1 (λ i. (c.type_inv.u i).fits)
     (omega (arith, size, c.if-room-size.false)) (omega (arith, size, offset, c.if-offset-size-gt-LENGTH.false)))

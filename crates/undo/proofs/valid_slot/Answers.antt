@@ -8,4 +8,4 @@ pub returns : goal.returns
 returns c =
     let start = c in
     ap₂ ◌&&◌ c.valid_part.ensures c.valid_part-2.ensures
-    ∙ sym (slot-valid start.args.at start.args.u.now start.requires (λ i. (c.shared_slice_known-1.given i).fits))
+    ∙ sym (slot-valid start.args.at start.args.u.now start.requires (λ i. (c.type_inv.u i).fits))
