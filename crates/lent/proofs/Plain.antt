@@ -3,7 +3,7 @@ use Prim.Native.Nat.{ℕ}
 use mathlib.Core.Path.{◌≡◌, sym, subst}
 use mathlib.Core.List.{List}
 use Rattle.model.specs.Answers.{Plain}
-use Rattle.calls.specs.Lent.{taken, Lent, lent_call, Leaves}
+use Rattle.calls.specs.Lent.{taken, lent_call, Leaves}
 
 -- a plain answer with the number 0
 pub plain-taken : (x : Plain) (vs : List ℕ) → x.number ≡ 0 → vs ≡ x.values → taken vs ≡ x

@@ -2,6 +2,7 @@
 // These functions are for the crates of this repository: a `requires` is met by each caller's proof.
 
 #![tactic(auto)]
+
 ghost use Rattle.std.specs.Prelude.{◌≡◌, List, ℕ, ◌≤◌, ◌*◌, ◌/◌, ◌%◌, ◌^◌, length};
 ghost use Rattle.calls.specs.Lent.{answer_length, with_answer, taken, lent_call, Leaves};
 

@@ -1,8 +1,8 @@
 -- A refused listing leaves every lent slice. Assumes nothing.
 use Rattle.std.specs.Prelude.{ℕ, List}
 use Rattle.calls.specs.Kept.{Keeps}
-use Rattle.replaying.specs.Listings.{Outcome, list_on}
-use Rattle.replaying.specs.Lent.{ListLent, list_lent}
+use Rattle.replaying.specs.Listings.{list_on}
+use Rattle.replaying.specs.Lent.{list_lent}
 
 pub record ListKeeps : Type 0 where
   -- `list_run`: the hall's slice and the text's

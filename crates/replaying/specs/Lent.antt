@@ -1,7 +1,7 @@
 -- A listing in C: what the call returns and leaves, with the listing's length as a word in a lent slice. Assumes nothing.
 use Rattle.std.specs.Prelude.{ℕ, ◌≡◌, List, [], ◌∷◌}
 use Rattle.model.specs.Answers.{Plain}
-use Rattle.calls.specs.Lent.{Lent, lent_call}
+use Rattle.calls.specs.Lent.{lent_call}
 use Rattle.replaying.specs.Listings.{Outcome, list_on}
 
 -- the number that the call returns, and the slices that it leaves: the hall's, the text's and the answer's

@@ -1,5 +1,5 @@
 -- Laws of specs/Buffer: the form is one, and what a slice holds once slots are written in it. Assumes nothing.
-use Prim.Native.Nat.{ℕ, ◌+◌, ◌-◌, ◌^◌, ◌≤◌, ◌<◌}
+use Prim.Native.Nat.{ℕ, ◌-◌, ◌^◌, ◌≤◌, ◌<◌}
 use native.Mathlib.Omega.{arith}
 use mathlib.Core.Path.{◌≡◌, refl, ap, ◌∙◌}
 use mathlib.Core.Bool.{true}
@@ -9,20 +9,19 @@ use lib.Dec.{lit<}
 use lib.ListN.{length, take, drop, length-append, length-take, length-drop}
 use lib.Seq.{take_at, drop_at}
 use Rattle.base.specs.Lists.{Each}
-use Rattle.codec.specs.Form.{Form, mapped}
+use Rattle.codec.specs.Form.{mapped}
 use Rattle.codec.specs.Number.{word, byte}
 use Rattle.codec.specs.Pair.{pair}
 use Rattle.codec.specs.Bounded.{listed, bounded, Within}
-use Rattle.codec.specs.Slice.{holds, Held}
+use Rattle.codec.specs.Slice.{Held}
 use Rattle.codec.proofs.FormLaws.{Lawful, renamed-lawful, guarded-lawful}
 use Rattle.codec.proofs.NumberLaws.{word-lawful, byte-lawful}
 use Rattle.codec.proofs.PairLaws.{pair-lawful}
 use Rattle.codec.proofs.CellsLaws.{Each-append, Each-take, Each-drop}
 use Rattle.codec.proofs.BoundedLaws.{listed-lawful, bounded-lawful}
 use Rattle.codec.proofs.SliceLaws.{held, encode-holds, value_of-encode, value-ok, whole-encode}
-use Rattle.model.specs.Call.{Words}
 use Rattle.store.specs.Layout.{word_size, recorder_size, endpoint_size}
-use Rattle.undo.specs.Buffer.{Part, Slot, part_form, words_form, slot_form, undo_form, is_undo, held_in, with_held, newest, newest_of, older, pushed, popped, max_slots, undo_length, inside}
+use Rattle.undo.specs.Buffer.{Slot, part_form, words_form, slot_form, undo_form, is_undo, held_in, with_held, newest, newest_of, older, pushed, popped, max_slots, undo_length, inside}
 
 -- ## The form is lawful
 

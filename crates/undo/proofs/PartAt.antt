@@ -12,8 +12,8 @@ use lib.Seq.{sets, take-take}
 use borrow.Author.Tests.{le-leb, lt-leb, leb-true, leb-false}
 use Rattle.base.specs.Lists.{Each}
 use Rattle.base.proofs.Bools.{by_cases}
-use Rattle.codec.specs.Bytes.{Block, part, zeros, all_zero}
-use Rattle.codec.specs.Form.{Form, mapped, renamed, guarded}
+use Rattle.codec.specs.Bytes.{part, zeros, all_zero}
+use Rattle.codec.specs.Form.{mapped, renamed, guarded}
 use Rattle.codec.specs.Number.{value, digits, between, number, byte, word}
 use Rattle.codec.specs.Pair.{given}
 use Rattle.codec.specs.Cells.{valid_all, encode_all, decode_all, cells}
@@ -27,9 +27,8 @@ use Rattle.codec.proofs.ByteListLaws.{encode-bytes, decode-bytes, valid-bytes}
 use Rattle.codec.proofs.PutBack.{part_length}
 use Rattle.ranges.proofs.Loops.{bounded-over, bounded-within}
 use Rattle.ranges.proofs.Parts.{given-part, given-value, word-part}
-use Rattle.model.specs.Call.{Words}
 use Rattle.store.specs.Layout.{word_size, stored_length}
-use Rattle.undo.specs.Buffer.{Part, Slot, part_size, slot_size, max_slots, undo_length, inside, part_form, slot_form, undo_form, is_undo}
+use Rattle.undo.specs.Buffer.{Part, part_size, slot_size, max_slots, undo_length, inside, part_form, slot_form, undo_form, is_undo}
 use Rattle.undo.specs.Code.{offset_at, size_at}
 
 -- every element is a byte

@@ -11,19 +11,17 @@ use lib.ListN.{length, get_or, set, take, drop, length-append, length-replicate,
 use lib.Seq.{sets, length-sets, take_at, get_or_at, drop-append-le}
 use Rattle.base.specs.Lists.{Each}
 use Rattle.codec.specs.Bytes.{part, zeros}
-use Rattle.codec.specs.Form.{Form, mapped}
+use Rattle.codec.specs.Form.{mapped}
 use Rattle.codec.specs.Cells.{encode_all}
 use Rattle.codec.specs.Bounded.{bounded}
-use Rattle.codec.specs.Slice.{value_of, Held}
+use Rattle.codec.specs.Slice.{value_of}
 use Rattle.codec.proofs.BytesLaws.{part-between, sets-between}
 use Rattle.codec.proofs.CellsLaws.{suc-cells, Each-get_d, Each-append, Each-take, Each-drop, encode_all-append, encode_all-cons, encode_all-nil, block-encode_all}
-use Rattle.codec.proofs.FormLaws.{Lawful}
 use Rattle.codec.proofs.BoundedLaws.{bounded-encode, bounded-push, bounded-cell}
 use Rattle.codec.proofs.SliceLaws.{sets-append-left, slice-room, slice-value, slice-valid}
 use Rattle.codec.proofs.Piece.{Piece}
-use Rattle.model.specs.Call.{Words}
-use Rattle.undo.specs.Buffer.{Part, Slot, slot_size, max_slots, undo_length, slot_form, undo_form, is_undo, held_in, with_held, newest, newest_of, older, pushed, popped}
-use Rattle.undo.specs.Code.{RoomMade, Holding, NewestAt}
+use Rattle.undo.specs.Buffer.{Slot, slot_size, max_slots, undo_length, slot_form, undo_form, is_undo, held_in, with_held, newest, newest_of, older, pushed, popped}
+use Rattle.undo.specs.Code.{RoomMade, NewestAt}
 use Rattle.undo.proofs.BufferLaws.{slot-lawful, undo-lawful, Slots, held-there, held-slots, undo-whole, newest-short, newest-last, older-last}
 
 -- ## Lists of slots

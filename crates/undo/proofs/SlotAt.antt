@@ -1,5 +1,5 @@
 -- A slot at an offset of a buffer, as the code tests, reads and writes it. Assumes nothing.
-use Prim.Native.Nat.{ℕ, ◌+◌, ◌-◌, ◌≤◌, ◌<◌}
+use Prim.Native.Nat.{ℕ, ◌+◌, ◌-◌, ◌≤◌}
 use native.Mathlib.Omega.{arith}
 use mathlib.Core.Path.{◌≡◌, sym, ap, ap₂, ◌∙◌}
 use mathlib.Core.Bool.{Bool, true, ◌&&◌, and-eq-true_iff}
@@ -8,11 +8,10 @@ use lib.Dec.{lit<}
 use lib.ListN.{length}
 use lib.Seq.{sets}
 use Rattle.codec.specs.Bytes.{part}
-use Rattle.codec.specs.Form.{Form, mapped, renamed}
+use Rattle.codec.specs.Form.{mapped, renamed}
 use Rattle.codec.specs.Number.{value, digits, number, word}
 use Rattle.codec.specs.Pair.{given, pair}
 use Rattle.codec.proofs.BytesLaws.{sets-append}
-use Rattle.codec.proofs.FormLaws.{Lawful}
 use Rattle.codec.proofs.NumberLaws.{block-digits}
 use Rattle.ranges.proofs.Parts.{given-part, given-value, pair-part, word-part}
 use Rattle.model.specs.Call.{Words, words_of}

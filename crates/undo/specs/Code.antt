@@ -3,12 +3,11 @@ use Rattle.std.specs.Prelude.{ℕ, ◌+◌, ◌*◌, ◌^◌, ◌≤◌, ◌<◌
 use Rattle.std.proofs.Math.Option.{some}
 use Rattle.std.proofs.lemmas.List.Edits.{sets}
 use Rattle.codec.specs.Bytes.{part}
-use Rattle.codec.specs.Form.{Form}
 use Rattle.codec.specs.Number.{value}
 use Rattle.model.specs.Answers.{accepted}
 use Rattle.model.specs.Call.{Words, words_of}
 use Rattle.store.specs.StoredForm.{is_stored}
-use Rattle.calls.specs.Calls.{Outcome, step_on}
+use Rattle.calls.specs.Calls.{step_on}
 use Rattle.undo.specs.declared.Parts.{Parts}
 use Rattle.undo.specs.declared.Action.{Action}
 use Rattle.undo.specs.Buffer.{Slot, slot_size, max_slots, slot_form, is_undo, held_in, newest_of, pushed}

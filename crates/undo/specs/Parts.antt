@@ -14,7 +14,7 @@ use Rattle.model.specs.Call.{Words}
 use Rattle.store.specs.Layout.{views_at, view_cells, view_size, entries_at, entry_cells, entry_size, recorders_at, recorder_size}
 use Rattle.store.specs.Layout.{network_at, row_size, endpoint_size, queues_at, queue_size}
 use Rattle.store.specs.StoredForm.{hall_of}
-use Rattle.calls.specs.Calls.{Outcome, step_on}
+use Rattle.calls.specs.Calls.{step_on}
 use Rattle.undo.specs.Buffer.{Part, Slot}
 
 -- where a part stands and how many bytes it has

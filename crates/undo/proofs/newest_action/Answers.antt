@@ -1,0 +1,16 @@
+-- The four words at the slot's start. Assumes nothing.
+use mathlib.Core.Path.{sym, ap, ◌∙◌}
+use Rattle.undo.specs.Buffer.{Slot}
+use Rattle.undo.proofs.SlotAt.{words_same, slot-words}
+use Rattle.undo.proofs.PartAt.{Bytes}
+use Rattle.undo.proofs.Rooms.{some_same}
+use Rattle.undo.proofs.newest_action.Goals as goal
+
+pub returns : goal.returns
+returns c s e =
+    let start = c in
+    let at = c.newest_at-at in
+    let k : Bytes start.args.u.now = λ i. (c.shared_slice_known-1.given i).fits in
+    words_same c.get_u32.ensures c.get_u32-2.ensures c.get_u32-3.ensures c.get_u32-4.ensures
+    ∙ sym (slot-words at.result start.args.u.now at.ensures.room k)
+    ∙ ap (λ (x : Slot). x.words) (some_same (sym at.ensures.slot ∙ e))
