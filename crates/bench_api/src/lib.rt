@@ -1,6 +1,7 @@
 // For measurements (bench/): steps one after another on a slice that is checked once.
 
 #![tactic(auto)]
+
 ghost use Rattle.std.specs.Prelude.{◌≡◌, true, ◌*◌, ◌≤◌, length, take};
 ghost use Rattle.store.specs.StoredForm.{is_stored};
 ghost use Rattle.calls.specs.Calls.{run_on};

@@ -2,6 +2,7 @@
 // opening and its actions, and writing it.
 
 #![tactic(auto)]
+
 ghost use Rattle.std.specs.Prelude.{◌≡◌, List, ℕ};
 ghost use Rattle.base.specs.Chains.{◌⨾◌};
 ghost use Rattle.model.specs.RunFile.{write_file};

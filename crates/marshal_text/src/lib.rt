@@ -2,6 +2,7 @@
 // and a line of the text form, printed or read.
 
 #![tactic(auto)]
+
 ghost use Rattle.std.specs.Prelude.{◌≡◌, List, ℕ, ◌≤◌, length};
 ghost use Rattle.model.specs.Call.{words_of};
 ghost use Rattle.calls.specs.Lent.{Leaves, taken, lent_call};

@@ -1,0 +1,30 @@
+-- `marshal_runs::run_read_into` meets its contract. Assumes nothing.
+use Prim.Native.Nat.{ℕ}
+use mathlib.Core.Path.{sym, ap, ap₂, ◌∙◌}
+use mathlib.Core.List.{◌∷◌}
+use Rattle.model.specs.RunFile.{ReadAnswer, read_file, read_answer}
+use Rattle.runfile.specs.Answers.{vote_words, read_meaning}
+use Rattle.runfile.proofs.Cases.{read_is}
+use Rattle.calls.specs.Lent.{taken}
+use Rattle.calls.specs.RunsLent.{offset_words, read_words, run_read_lent}
+use Rattle.calls.proofs.Refused.{lent-refused}
+use Rattle.lent.proofs.Plain.{leaves-as}
+use Rattle.marshal_runs.proofs.Runs.{read_number}
+use Rattle.marshal_runs.proofs.run_read_into.Goals as goal
+
+pub returns-in-Refused : goal.returns-in-Refused
+unfolding run_read_lent read_meaning read_words
+returns-in-Refused c =
+    let f = c.args.file.now in
+    let e = read_is c.read_opening-read.ensures c.in-Refused.is in
+    lent-refused (read_words (read_answer f (read_file f))) f f c.args.out.now c.in-Refused.why (sym (ap (λ (z : ReadAnswer). (read_words z).number) e)) (read_number f c.in-Refused.why e)
+
+pub returns-in-Opened : goal.returns-in-Opened
+unfolding run_read_lent read_meaning read_words offset_words
+returns-in-Opened c =
+    let a = c.args in
+    let o = c.in-Opened.o in
+    let e = read_is c.read_opening-read.ensures c.in-Opened.is in
+    leaves-as a.file.now a.out.now
+    (ap₂ (λ (low high : ℕ). taken (o.opening.size ∷ o.opening.founders ∷ low ∷ high ∷ o.count ∷ o.opening.third ∷ vote_words o.opening.words)) c.low.ensures c.high.ensures ∙ sym (ap read_words e))
+    (c.answer_into.ensures a.file.now)

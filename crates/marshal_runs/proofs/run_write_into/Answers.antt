@@ -1,0 +1,45 @@
+-- `marshal_runs::run_write_into` meets its contract. Assumes nothing.
+use native.Mathlib.Omega.{arith}
+use mathlib.Core.Path.{sym, ap, ◌∙◌}
+use Rattle.model.specs.RunFile.{WriteAnswer, write_file}
+use Rattle.runfile.specs.Answers.{file_opening, run_of, written_meaning}
+use Rattle.calls.specs.Lent.{with_answer}
+use Rattle.calls.specs.RunsLent.{written_words, run_write_lent}
+use Rattle.calls.proofs.Refused.{lent-refused, lent-tried, lent-done}
+use Rattle.marshal_runs.proofs.Runs.{written_is, refused-write, write-length}
+use Rattle.marshal_runs.proofs.run_write_into.Goals as goal
+
+pub returns-then-out-lt-ANSWER : goal.returns-then-out-lt-ANSWER
+unfolding run_write_lent
+returns-then-out-lt-ANSWER c =
+    let a = c.args in
+    let o = write_file (run_of (file_opening a.o) a.actions.now) a.file.now in
+    lent-tried (written_words o.answer) a.file.now o.bytes a.out.now _ (c.try_write.ensures a.file.now) c.if-out-lt-ANSWER.true
+
+pub overflow_cast-values : goal.overflow_cast-values
+unfolding written_meaning
+overflow_cast-values c = omega (arith, write-length _ _ _ (written_is c.write-written.ensures.0 c.in-Bytes.is))
+
+pub returns-in-Refused : goal.returns-in-Refused
+unfolding run_write_lent written_meaning written_words
+returns-in-Refused c =
+    let a = c.args in
+    let x = run_of (file_opening a.o) a.actions.now in
+    let o = write_file x a.file.now in
+    let w = written_is c.write-written.ensures.0 c.in-Refused.is in
+    let r = refused-write x a.file.now c.in-Refused.number w in
+    let l = lent-refused (written_words o.answer) a.file.now o.bytes a.out.now c.in-Refused.number (sym (ap (λ (z : WriteAnswer). (written_words z).number) w)) r.0 in
+    record { number = l.number; bytes = c.write-written.ensures.1 ∙ r.1 ∙ l.bytes; answer = l.answer }
+
+pub returns-in-Bytes : goal.returns-in-Bytes
+unfolding run_write_lent written_meaning written_words
+returns-in-Bytes c =
+    let a = c.args in
+    let o = write_file (run_of (file_opening a.o) a.actions.now) a.file.now in
+    let w = written_is c.write-written.ensures.0 c.in-Bytes.is in
+    let l = lent-done (written_words o.answer) a.file.now o.bytes a.out.now (ap (λ (z : WriteAnswer). (written_words z).number) w) (omega (arith, c.if-out-lt-ANSWER.false)) in
+    record {
+      number = l.number;
+      bytes = c.write-written.ensures.1 ∙ l.bytes;
+      answer = c.put_values.ensures ∙ ap (λ (z : WriteAnswer). with_answer a.out.now (written_words z).values) (sym w) ∙ l.answer;
+    }
