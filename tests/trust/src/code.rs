@@ -166,7 +166,7 @@ fn read_function(tokens: &[Token], public: bool) -> Function {
     }
 }
 
-/// The names of parameters: `b` of `b: &[u8]`, and `self`; and `result`, which a clause may name too.
+/// The names that a clause may use: `b` of a parameter `b: &[u8]`, `self` and `result`.
 fn parameters(tokens: &[Token]) -> Vec<String> {
     let named = tokens
         .iter()

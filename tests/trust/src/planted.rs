@@ -233,7 +233,9 @@ impl<'a> Victims<'a> {
             ),
             Plant::fault(
                 "a function for C that the page lacks",
-                append(&format!("#[unsafe(no_mangle)]\npub extern \"C\" {function}")),
+                append(&format!(
+                    "#[unsafe(no_mangle)]\npub extern \"C\" {function}"
+                )),
                 &[&self.unlisted_is("planted")],
             ),
             Plant::fault(
