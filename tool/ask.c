@@ -96,7 +96,7 @@ enum status take_ask(struct story *story, const struct field *fields, size_t cou
     if (field_is(fields[0], "refused")) {
         mark_asked(story);
     }
-    if (story->reading == READ_ASKS) {
+    if (story->reading != READ_PLAIN) {
         join_fields(fields, count, asked);
         compare_answer(story, asked);
     }

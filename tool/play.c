@@ -401,7 +401,7 @@ enum status play_command(const struct streams *io, const struct options *options
     prompt->io = io;
     prompt->file = options->words[0];
     prompt->story.io = io;
-    prompt->story.reading = READ_ASKS;
+    prompt->story.reading = READ_TYPED;
     prompt->story.run = &prompt->run;
     enum status status = play(prompt);
     free(prompt);

@@ -38,7 +38,8 @@ struct story {
     char answered[MAX_WORDS]; /* its answer, as the listing has it */
     unsigned char accepted[MAX_RUN]; /* for each action of the run, whether it was accepted */
     struct held present;
-    struct held settled; /* as the library's settle leaves them, to compare its steps with */
+    uint8_t settled[HALL_LENGTH]; /* the hall after a settle, to compare its steps with */
+    struct held settled_held;     /* and with its undo buffer after a held one */
 };
 
 /* -- Lines: story.c ---------------------------------------------------------- */
@@ -72,7 +73,8 @@ void take_exchange(struct story *story, const struct view *view);
 /* All that brings a value of a recorder into the queue of its view. */
 void take_log(struct story *story, uint32_t r, uint32_t value);
 
-/* The steps that settle the hall, or a note that it is refused. */
+/* The steps that settle the hall, or a note that it is refused; at a prompt also one
+ * that no step is left. */
 enum status take_settle(struct story *story);
 
 /* The place of the newest accepted action in the run, counted from 1; 0 if there is

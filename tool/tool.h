@@ -115,7 +115,8 @@ struct run {
 /* How a run is read. */
 enum reading {
     READ_PLAIN, /* pass over what a run file has no place for */
-    READ_ASKS   /* judge every `=` */
+    READ_ASKS,  /* judge every `=` */
+    READ_TYPED  /* the same of what is typed at a prompt, and tell of a settle without steps */
 };
 
 /* Reads the run of a file: a run file if the name ends in .run, else a text.

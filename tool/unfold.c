@@ -173,17 +173,26 @@ static int take_turn(struct story *story, const struct view *view, struct passed
     return 0;
 }
 
-/* Compares the steps found with the library's settle: their count, the hall that they
+/* Whether the library's held settle counts the steps found, leads to their hall and
+ * holds them. */
+static int holds_steps(struct story *story, uint32_t found)
+{
+    uint8_t answer[HALL_ANSWER_LENGTH];
+    struct held *held = &story->settled_held;
+    return hall_settle_held(held->hall, HALL_LENGTH, held->undo, HALL_UNDO_LENGTH, answer, sizeof answer) == HALL_OK &&
+           hall_word(answer, HALL_SETTLE_COUNT) == found && memcmp(held, &story->present, sizeof *held) == 0;
+}
+
+/* Compares the steps found with the library's settles: their count, the hall that they
  * lead to, and what is held of them. */
 static void compare_settle(struct story *story, uint32_t counted, uint32_t found)
 {
-    const struct held *present = &story->present, *settled = &story->settled;
-    if (found != counted || memcmp(present->hall, settled->hall, HALL_LENGTH) != 0) {
+    if (found != counted || memcmp(story->present.hall, story->settled, HALL_LENGTH) != 0) {
         complain(story->io, STATUS_DIFFERS, story->run->name, story->line,
                  "the settle counts %" PRIu32 " steps, and the %" PRIu32 " found do not lead to its hall", counted,
                  found);
         story->run->failed = 1;
-    } else if (memcmp(present->undo, settled->undo, HALL_UNDO_LENGTH) != 0) {
+    } else if (!holds_steps(story, found)) {
         complain(story->io, STATUS_DIFFERS, story->run->name, story->line,
                  "the settle does not hold the %" PRIu32 " steps found", found);
         story->run->failed = 1;
@@ -197,6 +206,7 @@ static uint32_t take_steps(struct story *story, uint32_t counted)
     const struct view *view = &story->views[story->formed - 1];
     struct passed_over passed = {{{0}}};
     uint32_t found = 0;
+    story->last = LAST_NONE;
     while (!story->is_full && take_turn(story, view, &passed)) {
         found++;
     }
@@ -225,14 +235,14 @@ static enum status note_settle(struct story *story, uint32_t number)
 enum status take_settle(struct story *story)
 {
     uint8_t answer[HALL_ANSWER_LENGTH];
-    struct held *settled = &story->settled;
-    *settled = story->present;
-    uint32_t number =
-        hall_settle_held(settled->hall, HALL_LENGTH, settled->undo, HALL_UNDO_LENGTH, answer, sizeof answer);
-    if (number == HALL_OK && take_steps(story, hall_word(answer, HALL_SETTLE_COUNT)) != 0) {
-        return STATUS_FINE;
+    memcpy(story->settled, story->present.hall, HALL_LENGTH);
+    story->settled_held = story->present;
+    uint32_t number = hall_settle(story->settled, HALL_LENGTH, answer, sizeof answer);
+    if (number != HALL_OK) {
+        return note_settle(story, number);
     }
-    return note_settle(story, number);
+    uint32_t found = take_steps(story, hall_word(answer, HALL_SETTLE_COUNT));
+    return found == 0 && story->reading == READ_TYPED ? note_settle(story, HALL_OK) : STATUS_FINE;
 }
 
 /* -- Steps back ------------------------------------------------------------ */

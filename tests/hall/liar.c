@@ -27,8 +27,18 @@ uint32_t __wrap_hall_length(void)
     return __real_hall_length() + lies("length");
 }
 
-/* A settle that counts a step too many, that leaves another hall, or that holds another
- * action. */
+/* A settle that counts a step too many, or that leaves another hall. */
+uint32_t __real_hall_settle(uint8_t *hall, size_t hall_len, uint8_t *answer, size_t answer_len);
+uint32_t __wrap_hall_settle(uint8_t *hall, size_t hall_len, uint8_t *answer, size_t answer_len);
+uint32_t __wrap_hall_settle(uint8_t *hall, size_t hall_len, uint8_t *answer, size_t answer_len)
+{
+    uint32_t number = __real_hall_settle(hall, hall_len, answer, answer_len);
+    answer[4 * HALL_SETTLE_COUNT] = (uint8_t)(answer[4 * HALL_SETTLE_COUNT] + lies("count"));
+    hall[HALL_LENGTH - 1] = (uint8_t)(hall[HALL_LENGTH - 1] ^ lies("settle"));
+    return number;
+}
+
+/* A held settle that does so, or that holds another action. */
 uint32_t __real_hall_settle_held(uint8_t *hall, size_t hall_len, uint8_t *undo, size_t undo_len, uint8_t *answer,
                                  size_t answer_len);
 uint32_t __wrap_hall_settle_held(uint8_t *hall, size_t hall_len, uint8_t *undo, size_t undo_len, uint8_t *answer,
@@ -37,8 +47,8 @@ uint32_t __wrap_hall_settle_held(uint8_t *hall, size_t hall_len, uint8_t *undo, 
                                  size_t answer_len)
 {
     uint32_t number = __real_hall_settle_held(hall, hall_len, undo, undo_len, answer, answer_len);
-    answer[4 * HALL_SETTLE_COUNT] = (uint8_t)(answer[4 * HALL_SETTLE_COUNT] + lies("count"));
-    hall[HALL_LENGTH - 1] = (uint8_t)(hall[HALL_LENGTH - 1] ^ lies("settle"));
+    answer[4 * HALL_SETTLE_COUNT] = (uint8_t)(answer[4 * HALL_SETTLE_COUNT] + lies("held count"));
+    hall[HALL_LENGTH - 1] = (uint8_t)(hall[HALL_LENGTH - 1] ^ lies("held settle"));
     undo[1] = (uint8_t)(undo[1] ^ lies("hold"));
     return number;
 }

@@ -47,8 +47,8 @@ c() { cc -std=c99 $warnings -I"$root/include" -I"$root/tool" -I"$root/tests/hall
 
 # The tool; the tool with a library that lies, behind it; and a program NAME of the files given that calls the tool many times,
 # under the compiler's sanitizers. Options of the compiler may stand among the files.
-lies="-Wl,--wrap=hall_version,--wrap=hall_length,--wrap=hall_page,--wrap=hall_step,--wrap=hall_check"
-lies="$lies,--wrap=hall_settle_held,--wrap=hall_step_back"
+lies="-Wl,--wrap=hall_version,--wrap=hall_length,--wrap=hall_settle,--wrap=hall_page,--wrap=hall_step"
+lies="$lies,--wrap=hall_check,--wrap=hall_settle_held,--wrap=hall_step_back"
 build_hall() {
   mkdir -p "$out/objects" && (cd "$out/objects" && c -O2 -c "$root"/tool/*.c) && c "$out"/objects/*.o "$library" -o "$out/hall"
 }

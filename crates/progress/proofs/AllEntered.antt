@@ -5,7 +5,7 @@ use Prim.Native.Nat.{ℕ, ◌≤◌}
 use native.Mathlib.Omega.{arith}
 use mathlib.Core.Path.{◌≡◌, refl, sym, ap, ◌∙◌, subst}
 use mathlib.Core.Logic.{⊎_elim}
-use mathlib.Core.Bool.{Bool, true, false, not}
+use mathlib.Core.Bool.{Bool, true, false}
 use mathlib.Core.List.{List, [], ◌∷◌, ◌++◌, map, append_assoc}
 use lib.Dec.{eqb, leb, ltb}
 use borrow.Author.Tests.{eqb-true, eqb-false, eq-eqb, ltb-false, le-leb}
@@ -17,12 +17,12 @@ use Rattle.base.proofs.ListsLaws.{has-head, has-cons, has-none}
 use Rattle.base.proofs.ChainsLaws.{first_passes}
 use Rattle.model.specs.Hall.{max_number, Hall}
 use Rattle.model.specs.Service.{is_created, is_member, above_current}
-use Rattle.model.specs.Kinds.{Kind, enter, kind, recorder, number, unused, uses, wrong_recorder, stray_word, wrong_number, wrong_set, input_refusal}
+use Rattle.model.specs.Kinds.{Kind, enter, recorder, number, unused, uses, wrong_recorder, stray_word, wrong_number, wrong_set, input_refusal}
 use Rattle.model.specs.Answers.{plain, accepted, refused}
 use Rattle.model.specs.Refusals.{Rules, not_formed, not_member, not_above_current, state_refusal}
 use Rattle.model.specs.Actions.{Outcome, perform, refusal, act}
 use Rattle.model.specs.Call.{Words, words_of, step}
-use Rattle.model.specs.Settle.{greatest_view, settle_kinds, settle_call, calls_under, settle_calls, is_in_view, Turn, takes, full, none, tried, turn, turn_of}
+use Rattle.model.specs.Settle.{greatest_view, settle_kinds, settle_call, calls_under, settle_calls, is_in_view, Turn, takes, full, tried, turn, turn_of}
 use Rattle.model.proofs.Accepting.Performed.{number_of, kind-of-number}
 use Rattle.model.proofs.Accepting.Accepted.{performed-accepted}
 use Rattle.model.proofs.Settling.TurnLaws.{number_at, Passed, under-call, call-under}

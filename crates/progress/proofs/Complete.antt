@@ -13,14 +13,14 @@ use Rattle.base.specs.Lists.{has, filter, rising, Begins}
 use Rattle.base.specs.Numbers.{up_to}
 use Rattle.base.proofs.ListsLaws.{has-none, has-head, has-cons, has_right, in-filter, rising-cons, rising-above, rising-filter}
 use Rattle.base.proofs.NumbersLaws.{rising-up_to}
-use Rattle.model.specs.Hall.{Entries, Hall}
+use Rattle.model.specs.Hall.{Hall}
 use Rattle.model.specs.Ordering.{numbers}
 use Rattle.model.specs.Refusals.{Rules, holds_quorum, is_primary}
 use Rattle.model.specs.Opening.{Opening, open_refusal, opened}
 use Rattle.model.specs.Call.{Words, WordsIn}
 use Rattle.model.specs.Run.{run, item_of, of_items, history}
 use Rattle.model.specs.Agreed.{FairRules}
-use Rattle.model.specs.Settle.{greatest_view, cannot_settle, none, turn_of, Settling, settled, refused, max_turns, settle_from, settle, Complete}
+use Rattle.model.specs.Settle.{greatest_view, cannot_settle, none, turn_of, settled, refused, max_turns, settle_from, settle, Complete}
 use Rattle.model.proofs.Agreement.EntryLaws.{of_sender, of-sender-in}
 use Rattle.model.proofs.Agreement.RunLists.{listed-opened, opened-none, submitted-are}
 use Rattle.model.proofs.Agreement.Delivered.{reported_entries, delivered-are}

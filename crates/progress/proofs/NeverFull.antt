@@ -14,7 +14,7 @@ use Rattle.base.specs.Lists.{is_empty}
 use Rattle.base.proofs.Bools.{or-none, not-both}
 use Rattle.base.proofs.ChainsLaws.{passes, first-refuses, first_passes, link-but}
 use Rattle.base.proofs.ListsLaws.{head-rest}
-use Rattle.model.specs.Hall.{Message, Message.entry, Hall}
+use Rattle.model.specs.Hall.{Message, Hall}
 use Rattle.model.specs.Service.{is_created, is_member, has_pending, can_receive, queued_at}
 use Rattle.model.specs.Kinds.{Kind, submit, label, send_entry, send_summary, form, enter, place, receive, notice, confirm, deliver, KindWord, kind, no_kind, kind_of, uses, wrong_recorder, stray_word, wrong_number, wrong_set, input_refusal}
 use Rattle.model.specs.Answers.{refused, plain, accepted}

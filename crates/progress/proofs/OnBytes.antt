@@ -9,7 +9,6 @@ use mathlib.Core.List.{List, ◌++◌, map}
 use lib.ListN.{length, drop}
 use Rattle.base.proofs.Bools.{by_cases}
 use Rattle.model.specs.Hall.{Hall}
-use Rattle.model.specs.Answers.{Plain}
 use Rattle.model.specs.Opening.{Opening, open_refusal, opened}
 use Rattle.model.specs.Call.{Words, WordsIn, hl3}
 use Rattle.model.specs.Run.{run, History, history}
@@ -21,7 +20,7 @@ use Rattle.store.specs.Valid.{ValidHall}
 use Rattle.store.specs.StoredForm.{hall_of, is_stored}
 use Rattle.store.proofs.StoredFormLaws.{stored-is_stored, hall_of-stored, hall_of-valid, stored-slice}
 use Rattle.store.proofs.KeepValid.{run-valid, open-valid}
-use Rattle.calls.specs.Calls.{open_on, run_on, settling_on, SettleOutcome, settle_on}
+use Rattle.calls.specs.Calls.{open_on, run_on, settling_on, settle_on}
 use Rattle.calls.specs.Histories.{Made, history_of, Opens, made_on, settle_made, HallCall, StepsMet, step_words, steps_left, steps_made, LentCall, LentMet, lent_words, lent_left, lent_made}
 use Rattle.calls.proofs.OpenLaws.{open_done}
 use Rattle.calls.proofs.RunLaw.{run-stored}

@@ -11,7 +11,7 @@ use Rattle.base.specs.Lists.{bit}
 use Rattle.base.specs.Update.{upd, upd₂}
 use Rattle.base.proofs.Bools.{or-none}
 use Rattle.base.proofs.UpdateLaws.{at_place, at-place₂, upd_same, upd_other, upd₂-same, upd₂-other, upd₂-at}
-use Rattle.model.specs.Hall.{Message, Message.entry, Message.summary, Queued, Hall}
+use Rattle.model.specs.Hall.{Message, Queued, Hall}
 use Rattle.model.specs.Service.{createview, newview, gpsnd, gprcv, safe}
 use Rattle.model.specs.Refusals.{Rules}
 use Rattle.model.specs.Actions.{do_submit, do_form}

@@ -14,7 +14,7 @@ use Rattle.base.specs.Lists.{has, bit}
 use Rattle.base.proofs.Bools.{true-or-false}
 use Rattle.base.proofs.ListsLaws.{has-none, has-cons, bit-small}
 use Rattle.base.proofs.UpdateLaws.{same?}
-use Rattle.model.specs.Hall.{max_queue, max_recorders, Entries, Message, Message.entry, Message.summary, Queued, Hall}
+use Rattle.model.specs.Hall.{max_queue, max_recorders, Entries, Message, Queued, Hall}
 use Rattle.model.specs.Refusals.{Rules, queue_full}
 use Rattle.model.proofs.Accepting.Moves.{current, members_of}
 use Rattle.model.proofs.Agreement.State.{entry_of, is_summary, entries_in, entries_from, entries_of}

@@ -1,7 +1,7 @@
 -- Room to receive: kind 8 never meets 40 in a reached hall. An order names no entry twice, so it has at most 64 places, and so
 -- has the order after the receipt.
 -- Assumes nothing.
-use Prim.Native.Nat.{ℕ, ◌+◌, ◌≤◌}
+use Prim.Native.Nat.{ℕ, ◌≤◌}
 use native.Mathlib.Omega.{arith}
 use mathlib.Core.Path.{◌≡◌, refl, ap}
 use mathlib.Core.Bool.{Bool, true, false, ◌&&◌}
@@ -10,7 +10,7 @@ use lib.Dec.{ltb}
 use lib.ListN.{length, length-append}
 use borrow.Author.Tests.{lt-leb, le-ltb}
 use Rattle.base.proofs.UpdateLaws.{upd_same}
-use Rattle.model.specs.Hall.{max_order, Message, Message.entry, Message.summary, Hall}
+use Rattle.model.specs.Hall.{max_order, Message, Hall}
 use Rattle.model.specs.Ordering.{completes, heard_summary, built_order, established}
 use Rattle.model.specs.Refusals.{Rules, is_primary, summaries_of, order_full, built_too_long, no_room_to_receive}
 use Rattle.model.specs.Agreed.{FairRules}

@@ -13,7 +13,7 @@ use borrow.Author.Tests.{eqb-true, lt-leb, le-ltb}
 use Rattle.base.specs.Lists.{has, any}
 use Rattle.base.proofs.Bools.{true-or-false, and_both, not-both}
 use Rattle.base.proofs.ListsLaws.{has-head, has-cons, bit-small}
-use Rattle.model.specs.Hall.{max_sequence, max_buffer, max_pending, Message, Message.entry, Message.summary, send, Hall}
+use Rattle.model.specs.Hall.{max_sequence, max_buffer, max_pending, Message, send, Hall}
 use Rattle.model.specs.Ordering.{numbers, label_exists}
 use Rattle.model.specs.Refusals.{Rules, is_normal, buffer_full, pending_full, sequence_full, summary_place_full, new_label_exists}
 use Rattle.model.proofs.Accepting.Moves.{current, CanLabel}

@@ -13,7 +13,7 @@ use Rattle.base.specs.Update.{upd, upd₂}
 use Rattle.base.proofs.Bools.{not-both, and-true, or_left, or_right}
 use Rattle.base.proofs.ListsLaws.{has-none, has-cons, has_either, has_all}
 use Rattle.base.proofs.UpdateLaws.{at_place, upd_same, upd_other, upd-at, upd₂-same, upd₂-other, upd₂-at}
-use Rattle.model.specs.Hall.{Message, Message.entry, Message.summary, Queued, Service, Recorders, Hall}
+use Rattle.model.specs.Hall.{Message, Queued, Service, Recorders, Hall}
 use Rattle.model.specs.Fields
 use Rattle.model.specs.Service.{createview, newview, gpsnd, vs_order, gprcv, safe}
 use Rattle.model.specs.Ordering.{labelled, sent_entry, sent_summary, entered, heard_summary, heard_sources, fullorder, established, confirmed, reported}

@@ -5,16 +5,16 @@ use Prim.Native.Nat.{ℕ, ◌+◌, ◌^◌, ◌≤◌, ◌<◌}
 use native.Mathlib.Omega.{arith}
 use mathlib.Core.Path.{◌≡◌, refl, sym, ap, ◌∙◌, subst}
 use mathlib.Core.Logic.{inl}
-use mathlib.Core.Bool.{true, false, not}
+use mathlib.Core.Bool.{true, false}
 use mathlib.Core.List.{List, [], ◌∷◌}
 use lib.Dec.{eqb}
 use lib.ListN.{length}
 use borrow.Author.Tests.{eqb-true, eq-eqb, leb-true, leb-false, ltb-true, ltb-false, not-true, not-false}
-use Rattle.base.specs.Lists.{has, Each, rising, greatest}
+use Rattle.base.specs.Lists.{has, rising}
 use Rattle.base.proofs.ListsLaws.{each-has, head-rest}
 use Rattle.base.proofs.Bools.{or-none}
 use Rattle.base.proofs.ChainsLaws.{not-refused, chain-none, link}
-use Rattle.model.specs.Hall.{max_pending, max_queue, Message, Message.entry, Message.summary, Service, Hall}
+use Rattle.model.specs.Hall.{max_pending, max_queue, Message, Service, Hall}
 use Rattle.model.specs.Service.{has_pending, can_receive, has_unsafe, above_current}
 use Rattle.model.specs.Kinds.{Kind, label, send_entry, send_summary, enter, place, receive, notice, confirm, deliver}
 use Rattle.model.specs.Refusals.{Rules, not_formed, not_member, not_above_current, no_view, none_pending, none_to_receive, none_to_notice, order_ends, pending_full, queue_full, summary_place_full, buffer_head, state_refusal}

@@ -5,7 +5,6 @@ use Rattle.std.specs.Prelude.{List, [], ◌∷◌}
 use Rattle.model.specs.Hall.{Hall}
 use Rattle.model.specs.Answers.{plain}
 use Rattle.model.specs.Refusals.{Rules}
-use Rattle.model.specs.Actions.{Outcome}
 use Rattle.model.specs.Call.{Words, step}
 use Rattle.model.specs.Settle.{Turn, none, tried}
 

@@ -2,12 +2,10 @@
 -- any list of calls, settles among them. The proofs are in proofs/OnBytes.
 -- Assumes nothing.
 use Rattle.std.specs.Prelude.{ℕ, ◌≤◌, ◌≡◌, ◌⊎◌, List, ◌++◌, length}
-use Rattle.model.specs.Hall.{Hall}
-use Rattle.model.specs.Answers.{Plain}
 use Rattle.model.specs.Call.{hl3}
 use Rattle.model.specs.Settle.{greatest_view, none, turn_of, calls_taken, max_steps, Complete}
 use Rattle.store.specs.StoredForm.{hall_of}
-use Rattle.calls.specs.Calls.{settling_on, SettleOutcome, settle_on}
+use Rattle.calls.specs.Calls.{settling_on, settle_on}
 use Rattle.calls.specs.Histories.{Made, history_of, settle_made}
 
 -- a settle of the bytes b that is taken

@@ -8,7 +8,7 @@ use lib.Dec.{eqb}
 use lib.ListN.{length, get_or, take, drop}
 use lib.Seq.{sets, sets-eq, length-take-le, take_at, drop-length}
 use borrow.Author.Tests.{ne_eqb}
-use Rattle.base.specs.Lists.{greatest, has}
+use Rattle.base.specs.Lists.{greatest}
 use Rattle.base.proofs.ListsLaws.{key_has}
 use Rattle.model.specs.Hall.{Hall}
 use Rattle.model.specs.Refusals.{is_primary}
@@ -23,7 +23,7 @@ use Rattle.store.proofs.StoredFormLaws.{stored-block, is_stored-long, hall_of-va
 use Rattle.store.proofs.KeepValid.{run-valid}
 use Rattle.answer.specs.declared.Settled.{Settled}
 use Rattle.answer.specs.Meaning.{settled_meaning}
-use Rattle.calls.specs.Calls.{run_on, settling_on, SettleOutcome, settle_on}
+use Rattle.calls.specs.Calls.{run_on, settling_on, settle_on}
 use Rattle.calls.specs.Steps.{Settles}
 use Rattle.calls.proofs.RunLaw.{run-stored}
 use Rattle.calls.proofs.SettleLaws.{settling-held, settling-broken, settle-hall-low}

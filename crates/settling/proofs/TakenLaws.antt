@@ -9,7 +9,6 @@ use borrow.Author.Tests.{eq-eqb}
 use Rattle.quorum.specs.Sets.{members, mask}
 use Rattle.model.specs.Hall.{Hall}
 use Rattle.model.specs.Answers.{Answer, Plain, plain, accepted}
-use Rattle.model.specs.Actions.{Outcome}
 use Rattle.model.specs.Call.{Words, hl3, step}
 use Rattle.model.specs.Settle as model
 use Rattle.model.specs.Settle.{greatest_view, settle_call, settle_calls, takes, full, none, turn_of, Settling, settled, refused, and_then, calls_taken, plain_settle, max_turns, settle_from}
@@ -28,7 +27,6 @@ use Rattle.progress.specs.AnyTurn.{any_turn}
 use Rattle.progress.proofs.GreatestView.{greatest-number, members-rise, members-in}
 use Rattle.progress.proofs.AllEntered.{turn-any}
 use Rattle.hall.specs.declared.View.{View}
-use Rattle.hall.specs.Parts.{ViewIs}
 use Rattle.settling.specs.declared.Turn.{Turn}
 use Rattle.settling.specs.Turns.{found, InView, TurnsTaken}
 

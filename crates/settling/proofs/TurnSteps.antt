@@ -14,7 +14,6 @@ use Rattle.base.proofs.NumbersLaws.{up_to-numbers}
 use Rattle.quorum.specs.Sets.{in_mask, members}
 use Rattle.model.specs.Hall.{Hall}
 use Rattle.model.specs.Answers.{Answer, plain}
-use Rattle.model.specs.Actions.{Outcome}
 use Rattle.model.specs.Call.{Words, words_of, hl3, step}
 use Rattle.model.specs.Settle as model
 use Rattle.model.specs.Settle.{settle_kinds, settle_call, calls_under, settle_calls, takes, full, none, tried}

@@ -2,16 +2,15 @@
 use Rattle.std.specs.Prelude.{ℕ, ◌≡◌, Bool, true, false, List, take}
 use Rattle.quorum.specs.Sets.{in_mask}
 use Rattle.model.specs.Hall.{Hall}
-use Rattle.model.specs.Answers.{Plain, plain}
-use Rattle.model.specs.Actions.{Outcome}
-use Rattle.model.specs.Call.{Words, hl3, step}
+use Rattle.model.specs.Answers.{plain}
+use Rattle.model.specs.Call.{hl3, step}
 use Rattle.model.specs.Settle as model
 use Rattle.model.specs.Settle.{greatest_view, settle_call, tried, calls_taken, plain_settle, max_turns, settle_from}
 use Rattle.store.specs.Layout.{stored_length}
 use Rattle.store.specs.StoredForm.{hall_of, is_stored}
 use Rattle.answer.specs.declared.Settled.{Settled}
 use Rattle.answer.specs.Meaning.{settled_meaning}
-use Rattle.calls.specs.Calls.{run_on, SettleOutcome, settle_on}
+use Rattle.calls.specs.Calls.{run_on, settle_on}
 use Rattle.hall.specs.declared.View.{View}
 use Rattle.hall.specs.Parts.{ViewIs}
 use Rattle.settling.specs.declared.Turn.{Turn}

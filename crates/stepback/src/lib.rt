@@ -2,6 +2,7 @@
 // performed, so that a refused one writes nothing.
 
 #![tactic(auto)]
+
 ghost use Rattle.std.specs.Prelude.{◌≡◌, true};
 ghost use Rattle.model.specs.Answers.{plain};
 ghost use Rattle.model.specs.Call.{words_of};

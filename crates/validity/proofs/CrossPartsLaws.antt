@@ -15,7 +15,7 @@ use Rattle.base.proofs.Bools.{by_cases}
 use Rattle.base.proofs.NumbersLaws.{up_to-range, has-up_to}
 use Rattle.quorum.specs.Sets.{members}
 use Rattle.quorum.proofs.SetLaws.{members-range}
-use Rattle.model.specs.Hall.{Entries, max_entries, Message.summary, Queued, max_buffer, max_order, max_recorders}
+use Rattle.model.specs.Hall.{Entries, max_entries, Queued, max_buffer, max_order, max_recorders}
 use Rattle.model.specs.Opening.{blank_summary}
 use Rattle.model.specs.Ordering.{is_labelled, numbers}
 use Rattle.codec.specs.Bytes.{part}

@@ -29,7 +29,7 @@ use Rattle.codec.proofs.Blank.{blank-decode}
 use Rattle.codec.proofs.SliceLaws.{value-ok, slice-value, slice-bytes}
 use Rattle.codec.proofs.TableLaws.{key-index, all-keys}
 use Rattle.store.specs.Layout.{stored_length, entry_cells, entry_size, number_size, word_size, view_set_at, view_size, payload_size, entry_payload_at, views_at, view_cells, entries_at, views_size, votes_at, votes_size}
-use Rattle.store.specs.Valid.{VotesIn, InRange, some_votes}
+use Rattle.store.specs.Valid.{InRange, some_votes}
 use Rattle.store.specs.Cells.{blank_entry, entry_at}
 use Rattle.store.specs.CellForms.{entry_form, vote_form}
 use Rattle.store.specs.ViewForm.{views_form}

@@ -2,6 +2,7 @@
 // gathered by `&` and `|`: all are made, with no branch.
 
 #![tactic(auto)]
+
 ghost use Rattle.std.specs.Prelude.{◌≡◌, not, ◌&&◌, ◌||◌, ◌+◌, ◌-◌, ◌*◌, ◌≤◌, ◌<◌, eqb, length};
 ghost use Rattle.codec.specs.ByteList.{list_at};
 ghost use Rattle.base.specs.Lists.{has, all};

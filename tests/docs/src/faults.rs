@@ -135,7 +135,7 @@ const LISTED: [(&str, &str, &str); 3] = [
     ("a listed word without a reason", "unused", "no reason"),
     (
         "a listed word that is declared",
-        "stepOn a word",
+        "step_on a word",
         "declared",
     ),
 ];

@@ -118,7 +118,9 @@ impl Names {
         let list = tree.text("crates.txt");
         let lines = list.lines().filter(|line| !line.starts_with('#'));
         let lines = lines.filter_map(|line| line.split_once(':'));
-        let of_crate = |(name, below): (&str, &str)| {
+        // A library for C has the word `staticlib` after its name.
+        let of_crate = |(head, below): (&str, &str)| {
+            let name = head.split_whitespace().next().unwrap_or(head);
             let below = below.split_whitespace().map(str::to_string);
             (name.to_string(), below.collect())
         };

@@ -5,7 +5,7 @@ use crate::antt::{read_import, Import};
 use crate::text::{after_group, is_close, is_open, lines, tokens, Line, Token};
 use std::collections::HashMap;
 
-/// A clause of a contract: `requires { .. }` or `ensures { .. }`.
+/// A clause of a contract: `requires { .. }`, or `ensures NAME { .. }`.
 #[derive(Debug)]
 pub struct Promise {
     pub is_requires: bool,
@@ -166,12 +166,13 @@ fn read_function(tokens: &[Token], public: bool) -> Function {
     }
 }
 
-/// The names of parameters: `b` of `b: &[u8]`, and `self`.
+/// The names that a clause may use: `b` of a parameter `b: &[u8]`, `self` and `result`.
 fn parameters(tokens: &[Token]) -> Vec<String> {
     let named = tokens
         .iter()
         .filter_map(|token| token.text.strip_suffix(':'));
-    named.chain(["self"]).map(str::to_string).collect()
+    let all = named.chain(["self", "result"]);
+    all.map(str::to_string).collect()
 }
 
 /// The clauses between the parameters and the body.

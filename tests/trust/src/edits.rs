@@ -23,14 +23,15 @@ pub struct Texts<'a> {
 
 impl Texts<'_> {
     /// A file with a text changed: the first such text from where a line begins with `start`. A
-    /// text with letters or digits just before or after it is another one.
+    /// text with letters, digits or `_` just before or after it is another one.
     pub fn replace(self, path: &str, start: &str, old: &str, new: &str) -> Edits {
         let text = format!("\n{}", read(self.root, path)?);
         let begin = text.find(&format!("\n{start}"));
         let begin = begin.ok_or(format!("{path} has no line that begins with '{start}'"))?;
         let is_whole = |at: &usize| {
             let (before, after) = (&text[..*at], &text[at + old.len()..]);
-            !before.ends_with(char::is_alphanumeric) && !after.starts_with(char::is_alphanumeric)
+            let is_part = |c: char| c.is_alphanumeric() || c == '_';
+            !before.ends_with(is_part) && !after.starts_with(is_part)
         };
         let mut places = text[begin..].match_indices(old).map(|(at, _)| begin + at);
         let at = places.find(is_whole);

@@ -1,6 +1,6 @@
 //! The free names of a declaration: those that are bound neither by a parameter, a pattern, a `λ`
-//! or a `let`, nor by the declaration's own `where`. Projections (`x .field`) are no names here:
-//! the record is named by some signature on the way to x, and so is reached without them.
+//! or a `let`, nor by the declaration's own `where`. Projections (`x.field`) are no names here: the
+//! record is named by some signature on the way to x, and so is reached without them.
 
 use crate::antt::{Clause, Declaration, Kind};
 use crate::text::{after_group, is_close, is_open, Token};
@@ -168,10 +168,16 @@ impl<'a> Walk<'a> {
             }
             _ if is_sign(text) || text.starts_with('.') || is_number(text) => {}
             _ if bracket.lambda => self.bound.push(text.to_string()),
-            _ if self.bound.iter().any(|name| name == text) => {}
+            _ if self.is_bound(text) => {}
             _ => self.free.push(tokens[at].clone()),
         }
         at + 1
+    }
+
+    /// Is it a variable, or a projection of one?
+    fn is_bound(&self, text: &str) -> bool {
+        let (variable, _) = text.split_once('.').unwrap_or((text, ""));
+        self.bound.iter().any(|name| name == variable)
     }
 
     /// The variables of a `let`: a name, or those of `(x, y)`.
@@ -293,9 +299,9 @@ fn texts(tokens: &[Token]) -> Vec<String> {
     tokens.iter().map(|token| token.text.clone()).collect()
 }
 
-/// Is a token the name, or a part of it that stands between its arguments, as `⨾` of `_⨾_`?
+/// Is a token the name, or a part of it that stands between its arguments, as `⨾` of `◌⨾◌`?
 fn is_part_of(token: &str, name: &str) -> bool {
-    token == name || name.contains('_') && name.split('_').any(|part| part == token)
+    token == name || name.contains('◌') && name.split('◌').any(|part| part == token)
 }
 
 /// Signs and words of the language that are no names.

@@ -201,7 +201,7 @@ impl<'a> Victims<'a> {
         let (first, last) = self.contract;
         let requires = self
             .texts
-            .insert(&self.code, first, "    requires { ⌜ 0 ≡ 0 ⌝ }");
+            .insert(&self.code, first, "    requires { 0 ≡ 0 }");
         let nothing = self
             .texts
             .cut(&self.code, first, last)
@@ -222,7 +222,7 @@ impl<'a> Victims<'a> {
 
     /// Public functions that the page does not list.
     fn unlisted(&self) -> Vec<Plant> {
-        let function = "fn planted(x: u32) -> u32\n    ensures { λ r. ⌜ r ≡ x ⌝ }\n{\n    x\n}\n";
+        let function = "fn planted(x: u32) -> u32\n    ensures { result ≡ x }\n{\n    x\n}\n";
         let method = "    pub fn planted(self) -> u32\n    {\n        0\n    }\n";
         let append = |text: &str| self.texts.append(&self.code, text);
         vec![
@@ -233,7 +233,9 @@ impl<'a> Victims<'a> {
             ),
             Plant::fault(
                 "a function for C that the page lacks",
-                append(&format!("#[no_mangle]\npub extern \"C\" {function}")),
+                append(&format!(
+                    "#[unsafe(no_mangle)]\npub extern \"C\" {function}"
+                )),
                 &[&self.unlisted_is("planted")],
             ),
             Plant::fault(
@@ -366,7 +368,7 @@ impl<'a> Victims<'a> {
         let declared = &self.definition;
         let ((path, rest), moved) = self.texts.cut(&self.file, declared.line, declared.end)?;
         let crate_name = self.file.split('/').nth(1).unwrap_or("");
-        let module = format!("Rattle·{crate_name}·proofs.proofs.Planted");
+        let module = format!("Rattle.{crate_name}.proofs.Planted");
         let import = format!("use {module}.{{{}}}\n", declared.name);
         let proofs = format!("crates/{crate_name}/proofs/Planted.antt");
         Ok(vec![(path, import + &rest), (proofs, moved)])

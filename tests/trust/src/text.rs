@@ -16,7 +16,7 @@ pub struct Line {
 }
 
 /// The signs that are tokens wherever they stand.
-const SIGNS: [char; 10] = ['(', ')', '{', '}', '[', ']', '⌜', '⌝', ',', ';'];
+const SIGNS: [char; 8] = ['(', ')', '{', '}', '[', ']', ',', ';'];
 
 /// The lines of a text. What stands after `comment` on a line is left out.
 pub fn lines(text: &str, comment: &str) -> Vec<Line> {
@@ -82,11 +82,11 @@ fn push_word(word: &str, all: &mut Vec<String>) {
 }
 
 pub fn is_open(text: &str) -> bool {
-    matches!(text, "(" | "{" | "[" | "⌜")
+    matches!(text, "(" | "{" | "[")
 }
 
 pub fn is_close(text: &str) -> bool {
-    matches!(text, ")" | "}" | "]" | "⌝")
+    matches!(text, ")" | "}" | "]")
 }
 
 /// The place after the bracket that closes the one at `open`.

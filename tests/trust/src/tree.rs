@@ -14,6 +14,9 @@ use std::rc::Rc;
 /// Where the toolchain's libraries stand.
 const LIBRARIES: [&str; 6] = ["Prim", "mathlib", "lib", "native", "borrow", "denote"];
 
+/// The library of the code, which has the words of contracts: `Rattle.std.specs.Prelude`.
+const STD: &str = "std";
+
 /// Names of the language itself, which no line imports.
 const BUILT_IN: [&str; 7] = ["Type", "Unit", "tt", "⊥", "absurd", "×", "now"];
 
@@ -58,7 +61,7 @@ pub struct Source {
     constructors: HashMap<String, Vec<usize>>,
     imported: HashMap<String, (Origin, String)>,
     aliases: HashMap<String, Origin>,
-    /// A part of an operator to its whole name: `⨾` to `_⨾_`.
+    /// A part of an operator to its whole name: `⨾` to `◌⨾◌`.
     operators: HashMap<String, String>,
 }
 
@@ -113,8 +116,8 @@ impl Source {
     }
 
     fn add_operator(&mut self, name: &str) {
-        if name.contains('_') && !name.starts_with('«') {
-            for part in name.split('_').filter(|part| !part.is_empty()) {
+        if name.contains('◌') && !name.starts_with('«') {
+            for part in name.split('◌').filter(|part| !part.is_empty()) {
                 self.operators.insert(part.to_string(), name.to_string());
             }
         }
@@ -140,20 +143,22 @@ impl Source {
     }
 }
 
-/// Where a module stands. `Rattle·NAME.specs.X` and `Rattle·NAME·specs.specs.X` are both
-/// crates/NAME/specs/X.antt; what stands under `declared` is a type of the code.
+/// Where a module stands. `Rattle.NAME.specs.X` is crates/NAME/specs/X.antt; what stands under
+/// `declared` is a type of the code.
 fn origin_of(module: &str) -> Origin {
     let (head, rest) = module.split_once('.').unwrap_or((module, ""));
     if LIBRARIES.contains(&head) {
         return Origin::Library(module.to_string());
     }
-    let Some(name) = head.strip_prefix("Rattle·") else {
+    let Some((name, rest)) = rest.split_once('.').filter(|_| head == "Rattle") else {
         return Origin::Unknown;
     };
+    if name == STD {
+        return Origin::Library(module.to_string());
+    }
     if rest.starts_with("specs.declared.") {
         return Origin::Code;
     }
-    let name = name.split('·').next().unwrap_or(name);
     Origin::File(format!("crates/{name}/{}.antt", rest.replace('.', "/")))
 }
 
@@ -293,15 +298,27 @@ impl Tree {
         }
     }
 
-    /// `head.rest`: a name of a module, or a constructor or field of a type.
+    /// `head.rest`: a name of a module, a constructor or field of a type, or a projection of what is
+    /// declared as `head`.
     fn look_up_qualified(&self, source: &Source, head: &str, rest: &str, depth: usize) -> Meaning {
         if let Some(origin) = source.aliases.get(head) {
             return self.look_up_in(origin, rest, depth);
         }
         match self.look_up(source, head, depth + 1) {
-            Meaning::Declared { places, .. } => self.member_of(places, rest),
+            Meaning::Declared { places, .. } if self.has_type(&places) => {
+                self.member_of(places, rest)
+            }
             other => other,
         }
+    }
+
+    /// Is a type among what is declared at some places?
+    fn has_type(&self, places: &[Place]) -> bool {
+        let is_type = |place| {
+            let found = self.declaration(place);
+            found.is_some_and(|(_, type_)| matches!(type_.kind, Kind::Record | Kind::Data))
+        };
+        places.iter().any(is_type)
     }
 
     /// A constructor or field of one of some types.

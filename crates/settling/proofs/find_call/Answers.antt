@@ -1,6 +1,5 @@
 -- The invariant: the calls at the members passed so far give nothing. Assumes nothing.
 use borrow.Author.Rules.{rules}
-use Prim.Native.Nat.{◌-◌}
 use mathlib.Core.Path.{sym, ap, ◌∙◌}
 use mathlib.Core.List.{map}
 use Rattle.quorum.specs.Sets.{members}

@@ -1,7 +1,6 @@
 -- The invariant: the kinds passed so far give nothing. Assumes nothing.
 use borrow.Author.Rules.{rules}
 use native.Mathlib.Omega.{arith}
-use Prim.Native.Nat.{◌-◌}
 use mathlib.Core.Path.{◌≡◌, sym, ap, ◌∙◌}
 use Rattle.quorum.specs.Sets.{members}
 use Rattle.model.specs.Settle.{settle_kinds}

@@ -1,6 +1,5 @@
 -- The invariant: the calls taken so far, and what is left of the settle. Assumes nothing.
 use borrow.Author.Rules.{rules}
-use Prim.Native.Nat.{◌-◌}
 use mathlib.Core.Path.{refl, ◌∙◌}
 use Rattle.settling.proofs.TakenLaws.{going-none, going_next, going-full, going_done, going-out}
 use Rattle.settling.proofs.take_turns.Goals as goal

@@ -1,8 +1,6 @@
 -- The invariant: the numbers passed have it. Assumes nothing.
 use borrow.Author.Rules.{rules}
-use Prim.Native.Nat.{◌-◌}
 use mathlib.Core.Path.{sym, ◌∙◌}
-use mathlib.Core.Bool.{true}
 use Rattle.store.specs.Valid.{endpoint_cross}
 use Rattle.ranges.specs.TableParts.{view_at}
 use Rattle.validity.specs.RawHall.{raw}

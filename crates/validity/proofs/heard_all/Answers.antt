@@ -1,8 +1,6 @@
 -- The invariant: the numbers passed have it. Assumes nothing.
 use borrow.Author.Rules.{rules}
-use Prim.Native.Nat.{◌-◌}
 use mathlib.Core.Path.{sym, ◌∙◌}
-use mathlib.Core.Bool.{true}
 use Rattle.model.specs.Hall.{max_recorders}
 use Rattle.validity.specs.Marks.{heard_ok}
 use Rattle.validity.proofs.AllsLaws.{all_none, all-next, all-fail, all_done}

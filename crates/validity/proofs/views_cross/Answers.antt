@@ -1,6 +1,5 @@
 -- The invariant: the views left give what all give. Assumes nothing.
 use borrow.Author.Rules.{rules}
-use Prim.Native.Nat.{◌-◌}
 use mathlib.Core.Path.{sym, ap, ◌∙◌}
 use Rattle.base.specs.Lists.{all}
 use Rattle.validity.specs.RawHall.{raw}
