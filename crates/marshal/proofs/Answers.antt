@@ -1,7 +1,7 @@
 -- How many values an answer has. Assumes nothing.
 use mathlib.Core.Path.{◌≡◌, refl}
 use lib.ListN.{length}
-use Rattle.model.specs.Answers.{Plain, Content, Answer, message, refused, plain}
+use Rattle.model.specs.Answers.{Content, Answer, message, refused, plain}
 use Rattle.model.specs.Page.{PageAnswer, plain_page}
 use Rattle.answer.specs.declared.Settled.{Settled}
 use Rattle.answer.specs.Meaning.{settled_meaning}

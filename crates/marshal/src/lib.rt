@@ -2,6 +2,7 @@
 // settle, and the two that are held in an undo buffer.
 
 #![tactic(auto)]
+
 ghost use Rattle.std.specs.Prelude.{◌≡◌};
 ghost use Rattle.base.specs.Chains.{◌⨾◌};
 ghost use Rattle.model.specs.Answers as model;
