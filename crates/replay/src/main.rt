@@ -3,13 +3,21 @@
 
 #![tactic(auto)]
 
-ghost use Rattle.std.specs.Prelude.{◌≡◌, ◌*◌, ◌≤◌, length, take, IfOk};
+ghost use Rattle.std.specs.Prelude.{◌≡◌, ◌*◌, ◌<◌, ◌≤◌, length, take, IfOk, OnOk, IfSome, IsErrOf};
+ghost use Rattle.std.specs.Io.KnownBytes.{Consumes, IsAtEnd, Appends, Keeps};
 ghost use Rattle.model.specs.Call.{hl3};
 ghost use Rattle.model.specs.Listing.{listing};
 ghost use Rattle.listing.specs.Lines.{max_line};
 
 use std::io;
 use std::io::{Read, Write};
+
+// What can fail.
+#[derive(Clone, Copy, Debug, PartialEq, Eq)]
+enum Failure {
+    Reading,
+    Writing,
+}
 
 // The listing of a file stands at the text's start: 4,096 lines of at most 85 bytes are always enough.
 fn replay(file: &[u8], text: &mut [u8]) -> usize
@@ -21,9 +29,11 @@ fn replay(file: &[u8], text: &mut [u8]) -> usize
     listed.len
 }
 
-// Reads until the slice is full or the input has ended. Gives how many bytes were read to the slice's start.
-fn read_full(input: &mut impl Read, file: &mut [u8]) -> io::Result<usize>
-    ensures { IfOk result (λ n. n ≤ length file.new) }
+// Reads to the start of a slice, until it is full or the input has ended. Gives how many bytes were read.
+fn read_full<R: Read>(input: &mut R, file: &mut [u8]) -> io::Result<usize>
+    ensures fits { IfOk result (λ n. n ≤ length file.new) }
+    ensures read { IfOk result (λ n. Consumes (R.remaining input.old) (R.remaining input.new) (take n file.new)) }
+    ensures whole { IfOk result (λ n. n < length file.new → IsAtEnd (R.remaining input.new)) }
 {
     let mut done = 0;
     while done < file.len() {
@@ -36,26 +46,40 @@ fn read_full(input: &mut impl Read, file: &mut [u8]) -> io::Result<usize>
     Ok(done)
 }
 
-fn tell(rt: &impl Eprint, what: &str) {
-    let _ = eprintln!(rt; "replay: {what}");
-}
-
 // Lists a file that was read whole.
-fn list(output: &mut impl Write, file: &[u8]) -> io::Result<()> {
+fn list<W: Write>(output: &mut W, file: &[u8]) -> io::Result<()>
+    ensures { OnOk result (Appends (W.contents output.old) (W.contents output.new) (listing hl3 file.now)) }
+{
     let mut text = [0u8; 348160];
     let len = replay(file, &mut text);
     output.write_all(&text[..len])
 }
 
-// "A file has at most 65,536 bytes": one byte more is read, so that a longer one is seen to be longer.
-fn main(rt: HostRuntime) {
+// Lists the run file that an input has, however long it is. "A file has at most 65,536 bytes": one byte more is read, so that a
+// longer one is seen to be longer. Nothing is listed of a file that could not be read whole.
+fn run<R: Read, W: Write>(input: &mut R, output: &mut W) -> Result<(), Failure>
+    ensures lists { OnOk result (IfSome (R.remaining input.old)
+        (λ bytes. Appends (W.contents output.old) (W.contents output.new) (listing hl3 bytes))) }
+    ensures unread { IsErrOf result Failure.Reading → Keeps (W.contents output.old) (W.contents output.new) }
+{
     let mut file = [0u8; 65537];
-    match read_full(&mut rt.stdin(), &mut file) {
-        Ok(n) => {
-            if list(&mut rt.stdout(), &file[..n]).is_err() {
-                tell(&rt, "the listing cannot be written");
-            }
-        }
-        Err(_) => tell(&rt, "the run file cannot be read"),
+    let Ok(n) = read_full(input, &mut file) else {
+        return Err(Failure::Reading);
+    };
+    match list(output, &file[..n]) {
+        Ok(()) => Ok(()),
+        Err(_) => Err(Failure::Writing),
+    }
+}
+
+fn tell(rt: &impl Eprint, what: &str) {
+    let _ = eprintln!(rt; "replay: {what}");
+}
+
+fn main(rt: HostRuntime) {
+    match run(&mut rt.stdin(), &mut rt.stdout()) {
+        Ok(()) => {}
+        Err(Failure::Reading) => tell(&rt, "the run file cannot be read"),
+        Err(Failure::Writing) => tell(&rt, "the listing cannot be written"),
     }
 }
