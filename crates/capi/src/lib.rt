@@ -2,6 +2,7 @@
 // Each of these functions returns 0 or the number of the refusal. An answer is words in a lent slice.
 
 #![tactic(auto)]
+
 ghost use Rattle.std.specs.Prelude.{◌≡◌, [], ◌∷◌};
 ghost use Rattle.calls.specs.Calls.{open_on};
 ghost use Rattle.model.specs.Opening.{opening_of};
