@@ -57,10 +57,10 @@ const HOMES: [&str; 8] = [
     "tests/",
 ];
 
-/// The pages that are read: all but the one that speaks of the past.
+/// The pages that are read: all but the two that speak of the past.
 fn is_page(path: &str) -> bool {
     let in_docs = path.starts_with("docs/") && path.ends_with(".md");
-    path == "README.md" || in_docs && path != "docs/changes.md"
+    path == "README.md" || in_docs && path != "docs/changes.md" && path != "docs/PORT.md"
 }
 
 impl Seen {
