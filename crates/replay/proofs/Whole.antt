@@ -1,5 +1,5 @@
 -- What a reader has, listed by the bytes that were read of it: all of them, or one more than a file may have. Assumes nothing.
-use Rattle.std.proofs.Common.{◌≡◌, ℕ, ◌+◌, ◌≤◌, ◌<◌, List, [], ◌∷◌, ◌++◌, length, take, arith, refl, sym, ap, subst, ◌∙◌, take_all, length-append, inl, inr}
+use Rattle.std.proofs.Common.{◌≡◌, ℕ, ◌≤◌, ◌<◌, List, [], ◌++◌, length, arith, refl, sym, ap, subst, ◌∙◌, length-append, inl, inr}
 use Rattle.std.specs.Prelude.{Option, None, Some, IfSome, Bool, true, false, eqb}
 use Rattle.std.proofs.lemmas.List.{append-nil}
 use Rattle.std.proofs.Math.Nat.{eq-or-lt_of_le}

@@ -13,7 +13,7 @@ use std::io;
 use std::io::{Read, Write};
 
 // What can fail.
-#[derive(Clone, Copy, Debug, PartialEq, Eq)]
+#[derive(Clone, Copy)]
 enum Failure {
     Reading,
     Writing,
