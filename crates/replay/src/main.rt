@@ -1,5 +1,6 @@
 // Replays a run file from standard input, and writes its listing to standard output. What cannot be read or written is told
-// in one line on standard error, and the exit status is 0 all the same.
+// in one line on standard error, and the exit status is 0 all the same. Where nobody reads the listing any more it is 141, and
+// nothing is told, as of a program that the signal for that ends.
 
 #![tactic(auto)]
 
@@ -10,14 +11,19 @@ ghost use Rattle.model.specs.Listing.{listing};
 ghost use Rattle.listing.specs.Lines.{max_line};
 
 use std::io;
-use std::io::{Read, Write};
+use std::io::{ErrorKind, Read, Write};
+use std::process::ExitCode;
 
-// What can fail.
+// What can fail: the input, the output, or the output since nobody reads it any more.
 #[derive(Clone, Copy)]
 enum Failure {
     Reading,
     Writing,
+    Closed,
 }
+
+// 128, and the number of the signal for a pipe that nobody reads.
+const CLOSED: u8 = 141;
 
 // The listing of a file stands at the text's start: 4,096 lines of at most 85 bytes are always enough.
 fn replay(file: &[u8], text: &mut [u8]) -> usize
@@ -68,6 +74,7 @@ fn run<R: Read, W: Write>(input: &mut R, output: &mut W) -> Result<(), Failure>
     };
     match list(output, &file[..n]) {
         Ok(()) => Ok(()),
+        Err(e) if e.kind() == ErrorKind::BrokenPipe => Err(Failure::Closed),
         Err(_) => Err(Failure::Writing),
     }
 }
@@ -76,10 +83,12 @@ fn tell(rt: &impl Eprint, what: &str) {
     let _ = eprintln!(rt; "replay: {what}");
 }
 
-fn main(rt: HostRuntime) {
+fn main(rt: HostRuntime) -> ExitCode {
     match run(&mut rt.stdin(), &mut rt.stdout()) {
         Ok(()) => {}
         Err(Failure::Reading) => tell(&rt, "the run file cannot be read"),
         Err(Failure::Writing) => tell(&rt, "the listing cannot be written"),
+        Err(Failure::Closed) => return ExitCode::from(CLOSED),
     }
+    ExitCode::SUCCESS
 }
