@@ -1,4 +1,5 @@
--- The newest slot is put back in a copy, and its words are tried there. Assumes nothing.
+-- The newest slot is put back in a copy, and its words are tried there.
+-- Assumes nothing.
 use borrow.Author.Rules.{rules}
 use mathlib.Core.Path.{sym, ◌∙◌}
 use Rattle.store.proofs.StoredFormLaws.{is_stored-long}
@@ -22,8 +23,9 @@ returns-then-not-is_accepted c =
     let start = c in
     let w = c.newest_action-w in
     let x = c.step_hall in
+    let judged = sym c.is_hall.ensures ∙ c.if-not-is_hall.false in
     not-accepted start.args.hall.now start.args.undo.now start.requires.0 start.requires.1 _ (search rules) _ c.put_bytes.ensures _ c.put_back.ensures
-    (sym c.is_hall.ensures ∙ c.if-not-is_hall.false) w.result w.ensures x.result _ x.ensures
+    judged w.result w.ensures x.result _ x.ensures
     (sym c.is_accepted.ensures ∙ c.if-not-is_accepted.true)
 
 pub same-requires : goal.same-requires
@@ -36,6 +38,7 @@ returns c =
     let start = c in
     let w = c.newest_action-w in
     let x = c.step_hall in
+    let right = sym c.is_hall.ensures ∙ c.if-not-is_hall.false in
     leads-same start.args.hall.now start.args.undo.now start.requires.0 start.requires.1 _ (search rules) _ c.put_bytes.ensures _ c.put_back.ensures
-    (sym c.is_hall.ensures ∙ c.if-not-is_hall.false) w.result w.ensures x.result _ x.ensures
+    right w.result w.ensures x.result _ x.ensures
     (sym c.is_accepted.ensures ∙ c.if-not-is_accepted.false) c.same.result c.same.ensures
