@@ -11,3 +11,4 @@ pub mod Settling
 pub mod Computing
 pub mod Cards
 pub mod EndCounts
+pub mod RefusalNumbersLaws

@@ -18,3 +18,6 @@ pub mod RunFile
 pub mod Listing
 pub mod Cards
 pub mod EndCounts
+pub mod RefusalNumbers
+pub mod KindNumbers
+pub mod Phases

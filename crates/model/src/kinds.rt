@@ -1,25 +1,54 @@
-// The kinds of action by their numbers (01, "The eleven actions"; specs/Kinds, under the same names).
-pub const SUBMIT: u32 = 1;
+// The kinds of action, each with its number (01, "The eleven actions"; specs/KindNumbers).
 
-pub const LABEL: u32 = 2;
+ghost use Rattle.std.specs.Prelude.{◌≡◌};
+ghost use Rattle.model.specs.KindNumbers.{kind_number, Names};
 
-pub const SEND_ENTRY: u32 = 3;
+use crate::refusals::Refusal;
 
-pub const SEND_SUMMARY: u32 = 4;
+// "The eleven actions", 1 to 11 in turn.
+#[derive(Clone, Copy, PartialEq, Eq)]
+pub enum Kind {
+    Submit = 1,
+    Label = 2,
+    SendEntry = 3,
+    SendSummary = 4,
+    Form = 5,
+    Enter = 6,
+    Place = 7,
+    Receive = 8,
+    Notice = 9,
+    Confirm = 10,
+    Deliver = 11,
+}
 
-pub const FORM: u32 = 5;
+impl From<Kind> for u32 {
+    ghost from_gives = { λ k n. n ≡ kind_number k };
 
-pub const ENTER: u32 = 6;
+    fn from(k: Kind) -> u32 {
+        k as u32
+    }
+}
 
-pub const PLACE: u32 = 7;
+impl TryFrom<u32> for Kind {
+    type Error = Refusal;
 
-pub const RECEIVE: u32 = 8;
+    ghost try_from_gives = { Names };
 
-pub const NOTICE: u32 = 9;
-
-pub const CONFIRM: u32 = 10;
-
-pub const DELIVER: u32 = 11;
-
-// "K is not 1 to 11": the numbers of the kinds run from 1 to the last kind's
-pub const LAST_KIND: u32 = DELIVER;
+    // 11: "K is not 1 to 11".
+    fn try_from(k: u32) -> Result<Kind, Refusal> {
+        match k {
+            1 => Ok(Kind::Submit),
+            2 => Ok(Kind::Label),
+            3 => Ok(Kind::SendEntry),
+            4 => Ok(Kind::SendSummary),
+            5 => Ok(Kind::Form),
+            6 => Ok(Kind::Enter),
+            7 => Ok(Kind::Place),
+            8 => Ok(Kind::Receive),
+            9 => Ok(Kind::Notice),
+            10 => Ok(Kind::Confirm),
+            11 => Ok(Kind::Deliver),
+            _ => Err(Refusal::Kind),
+        }
+    }
+}

@@ -4,8 +4,11 @@
 
 #![tactic(auto)]
 
+pub mod kind_numbers;
 pub mod kinds;
 pub mod limits;
 pub mod payload;
+pub mod phase_numbers;
 pub mod phases;
+pub mod refusal_numbers;
 pub mod refusals;

@@ -1,6 +1,20 @@
-// "phase (normal, send, collect)", as its byte
-pub const NORMAL: u8 = 0;
+// The phases of a recorder, each with its byte (specs/Phases).
 
-pub const SEND: u8 = 1;
+ghost use Rattle.std.specs.Prelude.{◌≡◌};
+ghost use Rattle.model.specs.Phases.{phase_number};
 
-pub const COLLECT: u8 = 2;
+// "phase (normal, send, collect)"
+#[derive(Clone, Copy, PartialEq, Eq)]
+pub enum Phase {
+    Normal = 0,
+    Send = 1,
+    Collect = 2,
+}
+
+impl From<Phase> for u8 {
+    ghost from_gives = { λ p n. n ≡ phase_number p };
+
+    fn from(p: Phase) -> u8 {
+        p as u8
+    }
+}

@@ -5,14 +5,17 @@
 
 ghost use Rattle.std.specs.Prelude.{◌≡◌, not, ◌^◌, ◌≤◌, leb};
 ghost use Rattle.base.specs.Numbers.{within};
-ghost use Rattle.base.specs.Chains.{refuse, ◌⨾◌};
+ghost use Rattle.base.specs.Chains.{refuse};
 ghost use Rattle.model.specs.Hall.{max_recorders};
-ghost use Rattle.model.specs.Kinds.{last_kind, uses, wrong_recorder, stray_word, wrong_number, wrong_set, input_refusal};
+ghost use Rattle.model.specs.Kinds.{uses, wrong_recorder, stray_word, wrong_number, wrong_set, input_refusal};
 ghost use Rattle.model.specs.Opening.{wrong_opening, opening_of, open_refusal};
-ghost use Rattle.words.specs.Words.{kind_at, use_of, uses_of};
+ghost use Rattle.model.specs.KindNumbers.{kind_meaning};
+ghost use Rattle.model.specs.RefusalNumbers.{number, refused_by};
+ghost use Rattle.words.specs.Words.{use_of, uses_of};
 
 use model::limits::MAX_RECORDERS;
-use model::{kinds, refusals};
+use model::kinds::Kind;
+use model::refusals::Refusal;
 use quorum::wrong_row;
 
 // "N, 1 to 8"
@@ -33,24 +36,21 @@ pub enum Use {
 pub struct Uses(pub Use, pub Use, pub Use);
 
 // The table of kinds, the model's row by row. "Form view A with set B (R is 0)."
-pub fn uses_of(k: u32) -> Uses
-    requires le_k { 1 ≤ k }
-    requires k_le_last_kind { k ≤ last_kind }
-    ensures { uses_of result ≡ uses (kind_at k) }
+#[tactic(auto, unfolding(crate::specs::Words::uses_of, crate::specs::Words::use_of, model::specs::Kinds::uses))]
+pub fn uses_of(k: Kind) -> Uses
+    ensures { uses_of result ≡ uses (kind_meaning k) }
 {
     match k {
-        kinds::SUBMIT => Uses(Use::Recorder, Use::Word, Use::Unused),
-        kinds::LABEL => Uses(Use::Recorder, Use::Unused, Use::Unused),
-        kinds::SEND_ENTRY => Uses(Use::Recorder, Use::Unused, Use::Unused),
-        kinds::SEND_SUMMARY => Uses(Use::Recorder, Use::Unused, Use::Unused),
-        kinds::FORM => Uses(Use::Unused, Use::Number, Use::Set),
-        kinds::ENTER => Uses(Use::Recorder, Use::Number, Use::Unused),
-        kinds::PLACE => Uses(Use::Recorder, Use::Number, Use::Unused),
-        kinds::RECEIVE => Uses(Use::Recorder, Use::Unused, Use::Unused),
-        kinds::NOTICE => Uses(Use::Recorder, Use::Unused, Use::Unused),
-        kinds::CONFIRM => Uses(Use::Recorder, Use::Unused, Use::Unused),
-        // kinds::DELIVER
-        _ => Uses(Use::Recorder, Use::Unused, Use::Unused),
+        Kind::Submit => Uses(Use::Recorder, Use::Word, Use::Unused),
+        Kind::Form => Uses(Use::Unused, Use::Number, Use::Set),
+        Kind::Enter | Kind::Place => Uses(Use::Recorder, Use::Number, Use::Unused),
+        Kind::Label
+        | Kind::SendEntry
+        | Kind::SendSummary
+        | Kind::Receive
+        | Kind::Notice
+        | Kind::Confirm
+        | Kind::Deliver => Uses(Use::Recorder, Use::Unused, Use::Unused),
     }
 }
 
@@ -118,43 +118,29 @@ fn wrong_opening(n: u32, founders: u32) -> bool
     is_outside(1, RECORDERS, n) || names_above(n, founders)
 }
 
-// The number of a refusal whose condition holds, 0 for none.
-pub fn refusal(t: bool, number: u32) -> u32
-    ensures { result ≡ refuse t number }
+// Refuses where a condition holds.
+pub fn refuse(t: bool, why: Refusal) -> Result<(), Refusal>
+    ensures { refused_by result ≡ refuse t (number why) }
 {
-    if t { number } else { 0 }
-}
-
-// The first of two refusals, 0 for none.
-pub fn first(a: u32, b: u32) -> u32
-    ensures { result ≡ a ⨾ b }
-{
-    if a == 0 { b } else { a }
+    if t { Err(why) } else { Ok(()) }
 }
 
 // 12 to 15 of a kind, rising, in a hall of n recorders: each word is tested as the kind uses it.
-pub fn input_refusal(n: u32, k: u32, r: u32, a: u32, b: u32) -> u32
-    requires n_le_max_recorders { n ≤ max_recorders }
-    requires le_k { 1 ≤ k }
-    requires k_le_last_kind { k ≤ last_kind }
-    ensures { result ≡ input_refusal n (kind_at k) r a b }
+pub fn input_refusal(n: u32, k: Kind, r: u32, a: u32, b: u32) -> Result<(), Refusal>
+    requires { n ≤ max_recorders }
+    ensures { refused_by result ≡ input_refusal n (kind_meaning k) r a b }
 {
     let Uses(of_r, of_a, of_b) = uses_of(k);
-    let recorder = refusal(wrong_recorder(n, of_r, r), refusals::RECORDER);
-    let stray = refusal(stray_word(of_a, a) | stray_word(of_b, b), refusals::UNUSED);
-    let number = refusal(
-        wrong_number(of_a, a) | wrong_number(of_b, b),
-        refusals::VIEW_NUMBER,
-    );
-    let set = refusal(wrong_set(n, of_a, a) | wrong_set(n, of_b, b), refusals::SET);
-    first(recorder, first(stray, first(number, set)))
+    refuse(wrong_recorder(n, of_r, r), Refusal::Recorder)?;
+    refuse(stray_word(of_a, a) | stray_word(of_b, b), Refusal::Unused)?;
+    refuse(wrong_number(of_a, a) | wrong_number(of_b, b), Refusal::ViewNumber)?;
+    refuse(wrong_set(n, of_a, a) | wrong_set(n, of_b, b), Refusal::Set)
 }
 
-// 16, and 41 "directly after 16" (02, A4), of an opening with a row of votes; 0 for none.
-pub fn opening_refusal(n: u32, founders: u32, row: [u32; 8]) -> u32
-    ensures { result ≡ open_refusal (opening_of n founders row) }
+// 16, and 41 "directly after 16" (02, A4), of an opening with a row of votes.
+pub fn opening_refusal(n: u32, founders: u32, row: [u32; 8]) -> Result<(), Refusal>
+    ensures { refused_by result ≡ open_refusal (opening_of n founders row) }
 {
-    let size = refusal(wrong_opening(n, founders), refusals::OPENING);
-    let votes = refusal(wrong_row(n, row), refusals::VOTES);
-    first(size, votes)
+    refuse(wrong_opening(n, founders), Refusal::Opening)?;
+    refuse(wrong_row(n, row), Refusal::Votes)
 }
