@@ -1,1 +1,2 @@
 pub mod WordLaws
+pub mod ValuesLaws

@@ -2,11 +2,13 @@
 
 #![tactic(auto)]
 
-ghost use Rattle.std.specs.Prelude.{◌≡◌};
-ghost use Rattle.model.specs.Answers.{accepted, word};
-ghost use Rattle.answer.specs.Meaning.{meaning, SaysAnswer, SaysPage, SaysSettled};
+ghost use Rattle.std.specs.Prelude.{◌≡◌, replicate};
+ghost use Rattle.model.specs.Answers.{accepted, plain, word};
+ghost use Rattle.model.specs.RefusalNumbers.{number};
+ghost use Rattle.answer.specs.Meaning.{taken, meaning, SaysAnswer, SaysPage, SaysSettled};
 
 use model::payload::Payload;
+use model::refusals::Refusal;
 
 // An entry, with its label and payload.
 #[derive(Clone, Copy)]
@@ -47,67 +49,77 @@ pub struct Sent {
     pub payload: Payload,
 }
 
-// The answer of an action. "The others give only done." "A refusal gives its number".
+// The answer of an action that is taken. "The others give only done."
 #[derive(Clone, Copy)]
 pub enum Answer {
     Done,
     Message(Message),
     From(Sent),
-    Refused(u32),
 }
 
-// An answer in plain numbers: 0 or the refusal's number, and which case it is with its fields.
+// An answer in plain numbers: 0 or the refusal's number, and the answer's values.
 #[derive(Clone, Copy)]
-pub struct PlainAnswer {
+pub struct Numbers<const N: usize> {
     pub number: u32,
-    pub values: [u32; 6],
+    pub values: [u32; N],
+}
+
+// The values of a call that is taken.
+fn taken<const N: usize>(values: [u32; N]) -> Numbers<N>
+    ensures number { result.number ≡ 0 }
+    ensures values { result.values ≡ values.entry }
+{
+    Numbers { number: 0, values }
 }
 
 // "A refusal gives its number, other answer fields 0"
-fn only_number(number: u32) -> PlainAnswer
-    ensures { SaysAnswer (Answer.Refused number) result }
+fn refused<const N: usize>(why: Refusal) -> Numbers<N>
+    ensures number { result.number ≡ number why }
+    ensures values { result.values ≡ replicate N 0 }
 {
-    PlainAnswer {
-        number,
-        values: [0; 6],
+    Numbers {
+        number: u32::from(why),
+        values: [0; N],
     }
 }
 
-fn plain_message(m: Message) -> PlainAnswer
-    ensures { SaysAnswer (Answer.Message m) result }
+// Which case an answer is, with its fields.
+#[tactic(auto, unfolding(model::specs::Answers::plain, crate::specs::Meaning::content_meaning))]
+fn values(a: Answer) -> [u32; 6]
+    ensures { result ≡ (plain (taken a)).values }
 {
-    let source = m.source;
-    let content = m.content;
-    match content {
-        Content::Entry(e) => PlainAnswer {
-            number: 0,
-            values: [1, source, e.view, e.seq, e.sender, e.payload.value],
-        },
-        Content::Summary(s) => PlainAnswer {
-            number: 0,
-            values: [2, source, s.known, s.order, s.confirm, s.high],
-        },
+    match a {
+        Answer::Done => [0; 6],
+        Answer::Message(
+            Message {
+                source,
+                content: Content::Entry(e),
+            },
+        ) => [1, source, e.view, e.seq, e.sender, e.payload.value],
+        Answer::Message(
+            Message {
+                source,
+                content: Content::Summary(s),
+            },
+        ) => [2, source, s.known, s.order, s.confirm, s.high],
+        Answer::From(s) => [3, s.sender, s.payload.value, 0, 0, 0],
     }
 }
 
-pub fn plain(a: Answer) -> PlainAnswer
+pub fn plain(a: Result<Answer, Refusal>) -> Numbers<6>
     ensures { SaysAnswer a result }
 {
     match a {
-        Answer::Done => only_number(0),
-        Answer::Message(m) => plain_message(m),
-        Answer::From(s) => PlainAnswer {
-            number: 0,
-            values: [3, s.sender, s.payload.value, 0, 0, 0],
-        },
-        Answer::Refused(k) => only_number(k),
+        Ok(x) => taken(values(x)),
+        Err(why) => refused(why),
     }
 }
 
-pub fn is_accepted(a: Answer) -> bool
+#[tactic(auto, unfolding(model::specs::Answers::plain, model::specs::Answers::accepted))]
+pub fn is_accepted(a: Result<Answer, Refusal>) -> bool
     ensures { result ≡ accepted (meaning a) }
 {
-    plain(a).number == 0
+    a.is_ok()
 }
 
 // "The page of a recorder gives .."; "the margin in place of the yes or no" (02, A1)
@@ -128,84 +140,43 @@ pub struct Page {
     pub value: u32,
 }
 
-#[derive(Clone, Copy)]
-pub enum PageAnswer {
-    Shown(Page),
-    Refused(u32),
-}
-
 // A signed number as a word: n for n, 2^32 - n for -n.
 fn word(m: i32) -> u32
     ensures { result ≡ word m }
 {
-    if m < 0 {
-        4294967295 - (-(m + 1)) as u32
-    } else {
-        m as u32
-    }
+    m.cast_unsigned()
 }
 
-// A page in plain numbers: 0 or the refusal's number, and the page's fields in turn, the margin as a word.
-#[derive(Clone, Copy)]
-pub struct PlainPage {
-    pub number: u32,
-    pub values: [u32; 13],
-}
-
-pub fn plain_page(a: PageAnswer) -> PlainPage
+// A page in plain numbers: its fields in turn, the margin as a word.
+pub fn plain_page(a: Result<Page, Refusal>) -> Numbers<13>
     ensures { SaysPage a result }
 {
     match a {
-        PageAnswer::Shown(p) => PlainPage {
-            number: 0,
-            values: [
-                p.view,
-                p.set,
-                p.phase,
-                word(p.margin),
-                p.high,
-                p.order_length,
-                p.buffer_length,
-                p.confirm,
-                p.report,
-                p.label_view,
-                p.label_seq,
-                p.label_sender,
-                p.value,
-            ],
-        },
-        PageAnswer::Refused(k) => PlainPage {
-            number: k,
-            values: [0; 13],
-        },
+        Ok(p) => taken([
+            p.view,
+            p.set,
+            p.phase,
+            word(p.margin),
+            p.high,
+            p.order_length,
+            p.buffer_length,
+            p.confirm,
+            p.report,
+            p.label_view,
+            p.label_seq,
+            p.label_sender,
+            p.value,
+        ]),
+        Err(why) => refused(why),
     }
 }
 
-// The answer of a settle (02, A5): the count of accepted steps, or the refusal's number.
-#[derive(Clone, Copy)]
-pub enum Settled {
-    Count(u32),
-    Refused(u32),
-}
-
-// The same in plain numbers.
-#[derive(Clone, Copy)]
-pub struct PlainSettled {
-    pub number: u32,
-    pub values: [u32; 1],
-}
-
-pub fn plain_settled(a: Settled) -> PlainSettled
+// A settle in plain numbers (02, A5): the count of accepted steps.
+pub fn plain_settled(a: Result<u32, Refusal>) -> Numbers<1>
     ensures { SaysSettled a result }
 {
     match a {
-        Settled::Count(n) => PlainSettled {
-            number: 0,
-            values: [n],
-        },
-        Settled::Refused(k) => PlainSettled {
-            number: k,
-            values: [0],
-        },
+        Ok(n) => taken([n]),
+        Err(why) => refused(why),
     }
 }

@@ -1,6 +1,6 @@
 -- What a list of calls leaves (01, "What a run leaves"), read off the calls: what each was lent, returned and left.
 -- Assumes nothing.
-use Rattle.std.specs.Prelude.{ℕ, ◌*◌, ◌≡◌, Bool, true, false, ◌&&◌, List, [], ◌∷◌, ◌++◌, eqb}
+use Rattle.std.specs.Prelude.{ℕ, ◌*◌, ◌≡◌, Bool, true, false, ◌&&◌, List, [], ◌∷◌, ◌++◌, eqb, Result}
 use Rattle.model.specs.Answers as model
 use Rattle.model.specs.Answers.{from, accepted}
 use Rattle.model.specs.Actions.{payload_of}
@@ -11,8 +11,8 @@ use Rattle.model.specs.Run.{first_waiting, at_report, items_from, History}
 use Rattle.codec.specs.Bytes.{part}
 use Rattle.codec.specs.Number.{value}
 use Rattle.store.specs.StoredForm.{hall_of}
+use Rattle.model.specs.declared.refusals.Refusal.{Refusal}
 use Rattle.answer.specs.declared.Answer.{Answer}
-use Rattle.answer.specs.declared.Settled.{Settled}
 use Rattle.answer.specs.Meaning.{meaning}
 use Rattle.calls.specs.Calls.{open_on, step_on, run_on, settling_on}
 use Rattle.calls.specs.Steps.{Steps, Settles}
@@ -72,12 +72,12 @@ settle_made b = made_on b (calls_taken (settling_on b))
 -- a call of `step`: its words, the answer that it returned, the bytes that it left
 pub record StepCall : Type 0 where
   pub words : Words
-  pub answer : Answer
+  pub answer : Result Answer Refusal
   pub bytes : List ℕ
 
 -- a call of `settle`: the answer that it returned, the bytes that it left
 pub record SettleCall : Type 0 where
-  pub answer : Settled
+  pub answer : Result ℕ Refusal
   pub bytes : List ℕ
 
 pub data HallCall : Type 0 where

@@ -14,7 +14,7 @@ ghost use Rattle.stepback.specs.Lent.{step_held_lent, settle_held_lent, LeavesHe
 
 use answer::{plain, plain_page, plain_settled};
 use lent::{ANSWER, answer_into, put_values};
-use model::refusals;
+use model::refusal_numbers;
 use page::page;
 use settling::{settle, settle_refusal};
 use step::{refusal, step};
@@ -37,7 +37,7 @@ pub fn page_into(hall: &[u8], r: u32, k: u32, out: &mut [u8]) -> u32
 fn or_no_room(number: u32) -> u32
     ensures { result ≡ number ⨾ 18 }
 {
-    if number == 0 { refusals::SHORT } else { number }
+    if number == 0 { refusal_numbers::SHORT } else { number }
 }
 
 // The number of a step whose answer has no room: nothing is performed.

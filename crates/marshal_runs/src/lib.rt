@@ -11,7 +11,7 @@ ghost use Rattle.calls.specs.Lent.{Leaves};
 ghost use Rattle.calls.specs.RunsLent.{run_read_lent, run_action_lent, run_write_lent, written_words};
 
 use lent::{ANSWER, answer_into, high, low, put_values};
-use model::refusals;
+use model::refusal_numbers;
 use runfile::{FileOpening, Next, OpenRead, Written};
 
 // The opening of a run file, written into a lent slice: N, the founders, the offset of the first action, how many actions
@@ -74,7 +74,7 @@ fn try_write(o: FileOpening, actions: &[u32]) -> u32
     let tried = runfile::write(&mut none, o, actions);
     match tried {
         Written::Refused(why) => why,
-        Written::Bytes(_) => refusals::SHORT,
+        Written::Bytes(_) => refusal_numbers::SHORT,
     }
 }
 

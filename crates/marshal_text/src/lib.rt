@@ -14,7 +14,7 @@ ghost use Rattle.replaying.specs.Lent.{list_lent, LeavesList};
 
 use codec::put_bytes;
 use lent::{ANSWER, answer_into, high, low, put_values};
-use model::refusals;
+use model::refusal_numbers;
 use parsing::{Line, parse_line};
 use printing::{Printed, print_action, print_opening};
 use replaying::list_run;
@@ -28,7 +28,7 @@ pub fn list_into(file: &[u8], hall: &mut [u8], text: &mut [u8], out: &mut [u8]) 
         result hall.new text.new out.new }
 {
     if out.len() < ANSWER {
-        return refusals::SHORT;
+        return refusal_numbers::SHORT;
     }
     let listed = list_run(file, hall, text);
     if listed.number != 0 {
@@ -51,11 +51,11 @@ fn put_line(x: Printed, text: &mut [u8], out: &mut [u8]) -> u32
         return x.number;
     }
     if text.len() < len {
-        return refusals::SHORT;
+        return refusal_numbers::SHORT;
     }
     let room = out.len();
     if room < ANSWER {
-        return refusals::SHORT;
+        return refusal_numbers::SHORT;
     }
     let line = x.bytes;
     put_bytes(text, 0, &line, len);

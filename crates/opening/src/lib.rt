@@ -14,7 +14,7 @@ ghost use Rattle.opening.specs.Opened.{Taken, begun, start_of, vote_bytes};
 
 use codec::{clear, put_byte, put_u32};
 use model::limits::MAX_RECORDERS;
-use model::refusals;
+use model::refusal_numbers;
 use pieces::{Recorder, put_recorder};
 use quorum::in_mask;
 use store::layout;
@@ -86,7 +86,7 @@ pub fn open(b: &mut [u8], n: u32, founders: u32, votes: [u32; 8]) -> u32
     ensures bytes { b.new ≡ (open_on b.old (opening_of n founders votes)).bytes }
 {
     let wrong = opening_refusal(n, founders, votes);
-    let short = refusal(b.len() < layout::LENGTH, refusals::SHORT);
+    let short = refusal(b.len() < layout::LENGTH, refusal_numbers::SHORT);
     let why = first(wrong, short);
     if why != 0 {
         return why;

@@ -15,7 +15,7 @@ ghost use Rattle.story.specs.Parsing.{kind_line, raw_line, opening_line, line_fr
 ghost use Rattle.scanning.specs.Scanned.{value_of};
 ghost use Rattle.parsing.specs.Reading.{Takes, TakesFour, TakesVotes, action_if, opening_if, line_meaning};
 
-use model::kinds;
+use model::kind_numbers;
 use runfile::{Action, FileOpening, Votes};
 use scanning::{HALL, RAW, Value, is_word, line_end, next_field, number_of, set_of, word_number};
 use words::{Use, Uses, uses_of};
@@ -323,7 +323,7 @@ fn line_from(k: u32, text: &[u8], at: usize) -> Line
     if k == RAW {
         return raw_line(text, at);
     }
-    if words::is_outside(1, kinds::LAST_KIND, k) {
+    if words::is_outside(1, kind_numbers::LAST_KIND, k) {
         return Line::Wrong(0);
     }
     kind_line(k, text, at)

@@ -15,7 +15,7 @@ ghost use Rattle.story.specs.Printing.{can_tell, has_line, arg_fields, kind_fiel
 ghost use Rattle.story.specs.Printing.{founders_fields, votes_fields, opening_text, tell_refusal};
 ghost use Rattle.printing.specs.Lines.{spaced, four_fields, kind_text, raw_text, told_text, Prints};
 
-use model::{kinds, refusals};
+use model::{kind_numbers, refusal_numbers};
 use quorum::{all_of, in_mask};
 use runfile::{FileOpening, Votes, refused_opening};
 use text::{put_decimal, put_field, put_number, put_word};
@@ -100,7 +100,7 @@ fn can_tell(u: Use, w: u32) -> bool
 fn has_line(k: u32, r: u32, a: u32, b: u32) -> bool
     ensures { result ≡ has_line (words_of k r a b) }
 {
-    if is_outside(1, kinds::LAST_KIND, k) {
+    if is_outside(1, kind_numbers::LAST_KIND, k) {
         return false;
     }
     let Uses(of_r, of_a, of_b) = uses_of(k);
@@ -138,17 +138,17 @@ fn put_kind_word(out: &mut [u8], at: usize, k: u32) -> usize
     ensures { Wrote out.old at (kind_word k) out.new result }
 {
     match k {
-        kinds::SUBMIT => put_word(out, at, b"submit"),
-        kinds::LABEL => put_word(out, at, b"label"),
-        kinds::SEND_ENTRY => put_word(out, at, b"send"),
-        kinds::SEND_SUMMARY => put_word(out, at, b"summary"),
-        kinds::FORM => put_word(out, at, b"form"),
-        kinds::ENTER => put_word(out, at, b"enter"),
-        kinds::PLACE => put_word(out, at, b"place"),
-        kinds::RECEIVE => put_word(out, at, b"receive"),
-        kinds::NOTICE => put_word(out, at, b"safe"),
-        kinds::CONFIRM => put_word(out, at, b"confirm"),
-        // kinds::DELIVER
+        kind_numbers::SUBMIT => put_word(out, at, b"submit"),
+        kind_numbers::LABEL => put_word(out, at, b"label"),
+        kind_numbers::SEND_ENTRY => put_word(out, at, b"send"),
+        kind_numbers::SEND_SUMMARY => put_word(out, at, b"summary"),
+        kind_numbers::FORM => put_word(out, at, b"form"),
+        kind_numbers::ENTER => put_word(out, at, b"enter"),
+        kind_numbers::PLACE => put_word(out, at, b"place"),
+        kind_numbers::RECEIVE => put_word(out, at, b"receive"),
+        kind_numbers::NOTICE => put_word(out, at, b"safe"),
+        kind_numbers::CONFIRM => put_word(out, at, b"confirm"),
+        // kind_numbers::DELIVER
         _ => put_word(out, at, b"deliver"),
     }
 }
@@ -258,7 +258,7 @@ fn put_opening(out: &mut [u8], at: usize, o: FileOpening) -> usize
 fn tell_refusal(o: FileOpening) -> u32
     ensures { result ≡ tell_refusal (file_opening o) }
 {
-    first(refused_opening(o), refusal(1 < o.third, refusals::FILE))
+    first(refused_opening(o), refusal(1 < o.third, refusal_numbers::FILE))
 }
 
 // The line of an opening; or the number of its refusal, and nothing.

@@ -23,7 +23,7 @@ ghost use Rattle.store.specs.HallForm.{entries_form, hall_fields};
 ghost use Rattle.ranges.specs.CellParts.{whole_label, recorder_rest};
 ghost use Rattle.ranges.specs.TableParts.{view_numbers, Found, tables_in};
 
-use model::{limits, phases};
+use model::{limits, phase_numbers};
 use quorum::{MAX_VOTE, all_of};
 use store::layout;
 
@@ -138,7 +138,7 @@ fn valid_recorder(b: &[u8], at: usize) -> bool
     let next = phase + 1;
     let buffer = next + 1;
     let order = buffer + layout::BUFFER;
-    valid_byte(b, phase, phases::NORMAL, phases::COLLECT)
+    valid_byte(b, phase, phase_numbers::NORMAL, phase_numbers::COLLECT)
         & valid_mark(b, next, SEQUENCE_MARK)
         & codec::valid_list(b, buffer, limits::MAX_BUFFER, 1, ENTRIES)
         & codec::valid_list(b, order, limits::MAX_ORDER, 1, ENTRIES)

@@ -11,7 +11,7 @@ ghost use Rattle.story.specs.Sets.{joins, with_member, members_from, set_of};
 ghost use Rattle.story.specs.Keywords.{word_number};
 ghost use Rattle.scanning.specs.Scanned.{Skips, Ends, Spans, chosen, value_of, closed_by, other_word, late_word};
 
-use model::kinds;
+use model::kind_numbers;
 
 // ## Fields
 
@@ -283,23 +283,23 @@ fn late_word(field: &[u8]) -> u32
 {
     let deliver = pick(
         is_word(field, b"deliver"),
-        kinds::DELIVER,
+        kind_numbers::DELIVER,
         other_word(field),
     );
-    let confirm = pick(is_word(field, b"confirm"), kinds::CONFIRM, deliver);
-    let safe = pick(is_word(field, b"safe"), kinds::NOTICE, confirm);
-    let receive = pick(is_word(field, b"receive"), kinds::RECEIVE, safe);
-    pick(is_word(field, b"place"), kinds::PLACE, receive)
+    let confirm = pick(is_word(field, b"confirm"), kind_numbers::CONFIRM, deliver);
+    let safe = pick(is_word(field, b"safe"), kind_numbers::NOTICE, confirm);
+    let receive = pick(is_word(field, b"receive"), kind_numbers::RECEIVE, safe);
+    pick(is_word(field, b"place"), kind_numbers::PLACE, receive)
 }
 
 // The number of a word that a line begins with, 0 for any other.
 pub fn word_number(field: &[u8]) -> u32
     ensures { result ≡ word_number field.now }
 {
-    let enter = pick(is_word(field, b"enter"), kinds::ENTER, late_word(field));
-    let form = pick(is_word(field, b"form"), kinds::FORM, enter);
-    let summary = pick(is_word(field, b"summary"), kinds::SEND_SUMMARY, form);
-    let send = pick(is_word(field, b"send"), kinds::SEND_ENTRY, summary);
-    let label = pick(is_word(field, b"label"), kinds::LABEL, send);
-    pick(is_word(field, b"submit"), kinds::SUBMIT, label)
+    let enter = pick(is_word(field, b"enter"), kind_numbers::ENTER, late_word(field));
+    let form = pick(is_word(field, b"form"), kind_numbers::FORM, enter);
+    let summary = pick(is_word(field, b"summary"), kind_numbers::SEND_SUMMARY, form);
+    let send = pick(is_word(field, b"send"), kind_numbers::SEND_ENTRY, summary);
+    let label = pick(is_word(field, b"label"), kind_numbers::LABEL, send);
+    pick(is_word(field, b"submit"), kind_numbers::SUBMIT, label)
 }

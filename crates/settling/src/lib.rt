@@ -21,7 +21,7 @@ use answer::{Settled, plain_settled};
 use codec::{or, put_bytes};
 use hall::{View, in_primary, read_view, size, view_count};
 use model::limits::MAX_TURNS;
-use model::{kinds, refusals};
+use model::{kind_numbers, refusal_numbers};
 use quorum::in_mask;
 use step::{bytes_refusal, refusal_hall, step_hall};
 use store::layout;
@@ -44,7 +44,7 @@ pub enum Turn {
 pub fn view_word(g: u32, k: u32) -> u32
     ensures { result ≡ (settle_call g k 0).a }
 {
-    if or(k == kinds::ENTER, k == kinds::PLACE) {
+    if or(k == kind_numbers::ENTER, k == kind_numbers::PLACE) {
         g
     } else {
         0
@@ -60,7 +60,7 @@ fn try_call(b: &[u8], v: View, k: u32, r: u32) -> u32
         let a = view_word(v.number, k);
         refusal_hall(b, k, r, a, 0)
     } else {
-        refusals::NO_MEMBER
+        refusal_numbers::NO_MEMBER
     }
 }
 
@@ -68,7 +68,7 @@ fn try_call(b: &[u8], v: View, k: u32, r: u32) -> u32
 fn is_end(n: u32) -> bool
     ensures { result ≡ (eqb n 0 || eqb n 40) }
 {
-    or(n == 0, n == refusals::FULL)
+    or(n == 0, n == refusal_numbers::FULL)
 }
 
 // The end of a turn at the call of kind k at recorder r with number n.
@@ -78,7 +78,7 @@ fn turn_at(k: u32, r: u32, n: u32) -> Turn
     if n == 0 {
         return Turn::Takes(k, r);
     }
-    if n == refusals::FULL {
+    if n == refusal_numbers::FULL {
         return Turn::Full;
     }
     Turn::Nothing
@@ -121,15 +121,15 @@ pub fn find_turn(b: &[u8], v: View) -> Turn
         ≡ any_turn hl3 (hall_of b.now) (settle_calls v.number (members (hall_of b.now).size v.set)) }
 {
     let order: [u32; KINDS] = [
-        kinds::ENTER,
-        kinds::SEND_SUMMARY,
-        kinds::SEND_ENTRY,
-        kinds::LABEL,
-        kinds::PLACE,
-        kinds::RECEIVE,
-        kinds::NOTICE,
-        kinds::CONFIRM,
-        kinds::DELIVER,
+        kind_numbers::ENTER,
+        kind_numbers::SEND_SUMMARY,
+        kind_numbers::SEND_ENTRY,
+        kind_numbers::LABEL,
+        kind_numbers::PLACE,
+        kind_numbers::RECEIVE,
+        kind_numbers::NOTICE,
+        kind_numbers::CONFIRM,
+        kind_numbers::DELIVER,
     ];
     let mut i = 0;
     while i < KINDS {
@@ -160,7 +160,7 @@ fn take_turns(work: &mut [u8], v: View) -> Settled
     while count < MAX_TURNS as u32 {
         match find_turn(work, v) {
             Turn::Takes(k, r) => take_call(work, v, k, r),
-            Turn::Full => return Settled::Refused(refusals::FULL),
+            Turn::Full => return Settled::Refused(refusal_numbers::FULL),
             Turn::Nothing => return Settled::Count(count),
         }
         count += 1;
@@ -185,7 +185,7 @@ pub fn bar_refusal(b: &[u8]) -> u32
     ensures { result ≡ refuse (cannot_settle (hall_of b.now)) 42 }
 {
     let count = view_count(b);
-    words::refusal(is_barred(b, count), refusals::NOT_PRIMARY)
+    words::refusal(is_barred(b, count), refusal_numbers::NOT_PRIMARY)
 }
 
 // The view with the greatest number: numbers rise, so it is the last formed one.
@@ -203,7 +203,7 @@ fn settle_hall(bytes: &[u8], work: &mut [u8]) -> Settled
 {
     let count = view_count(bytes);
     if is_barred(bytes, count) {
-        return Settled::Refused(refusals::NOT_PRIMARY);
+        return Settled::Refused(refusal_numbers::NOT_PRIMARY);
     }
     let v = greatest_view(bytes, count);
     put_bytes(work, 0, bytes, HALL);

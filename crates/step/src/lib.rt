@@ -22,7 +22,7 @@ use client::{
     submit_refusal,
 };
 use hall::size;
-use model::{kinds, refusals};
+use model::{kind_numbers, refusal_numbers};
 use noticing::{notice, notice_refusal};
 use receiving::{receive, receive_refusal};
 use sending::{send_entry, send_entry_refusal, send_summary, send_summary_refusal};
@@ -36,17 +36,17 @@ fn act(bytes: &mut [u8], k: u32, r: u32, a: u32, b: u32) -> Answer
     ensures { Does bytes.old (kind_at k) r a b result bytes.new }
 {
     match k {
-        kinds::SUBMIT => submit(bytes, r, a),
-        kinds::LABEL => label(bytes, r),
-        kinds::SEND_ENTRY => send_entry(bytes, r),
-        kinds::SEND_SUMMARY => send_summary(bytes, r),
-        kinds::FORM => form(bytes, a, b),
-        kinds::ENTER => enter(bytes, r, a),
-        kinds::PLACE => place_message(bytes, r, a),
-        kinds::RECEIVE => receive(bytes, r),
-        kinds::NOTICE => notice(bytes, r),
-        kinds::CONFIRM => confirm(bytes, r),
-        // kinds::DELIVER
+        kind_numbers::SUBMIT => submit(bytes, r, a),
+        kind_numbers::LABEL => label(bytes, r),
+        kind_numbers::SEND_ENTRY => send_entry(bytes, r),
+        kind_numbers::SEND_SUMMARY => send_summary(bytes, r),
+        kind_numbers::FORM => form(bytes, a, b),
+        kind_numbers::ENTER => enter(bytes, r, a),
+        kind_numbers::PLACE => place_message(bytes, r, a),
+        kind_numbers::RECEIVE => receive(bytes, r),
+        kind_numbers::NOTICE => notice(bytes, r),
+        kind_numbers::CONFIRM => confirm(bytes, r),
+        // kind_numbers::DELIVER
         _ => deliver(bytes, r),
     }
 }
@@ -57,17 +57,17 @@ fn act_refusal(bytes: &[u8], k: u32, r: u32, a: u32, b: u32) -> u32
     ensures { result ≡ number_on bytes.now (kind_at k) r a }
 {
     match k {
-        kinds::SUBMIT => submit_refusal(bytes),
-        kinds::LABEL => label_refusal(bytes, r),
-        kinds::SEND_ENTRY => send_entry_refusal(bytes, r),
-        kinds::SEND_SUMMARY => send_summary_refusal(bytes, r),
-        kinds::FORM => form_refusal(bytes, a),
-        kinds::ENTER => enter_refusal(bytes, r, a),
-        kinds::PLACE => place_refusal(bytes, r, a),
-        kinds::RECEIVE => receive_refusal(bytes, r),
-        kinds::NOTICE => notice_refusal(bytes, r),
-        kinds::CONFIRM => confirm_refusal(bytes, r),
-        // kinds::DELIVER
+        kind_numbers::SUBMIT => submit_refusal(bytes),
+        kind_numbers::LABEL => label_refusal(bytes, r),
+        kind_numbers::SEND_ENTRY => send_entry_refusal(bytes, r),
+        kind_numbers::SEND_SUMMARY => send_summary_refusal(bytes, r),
+        kind_numbers::FORM => form_refusal(bytes, a),
+        kind_numbers::ENTER => enter_refusal(bytes, r, a),
+        kind_numbers::PLACE => place_refusal(bytes, r, a),
+        kind_numbers::RECEIVE => receive_refusal(bytes, r),
+        kind_numbers::NOTICE => notice_refusal(bytes, r),
+        kind_numbers::CONFIRM => confirm_refusal(bytes, r),
+        // kind_numbers::DELIVER
         _ => deliver_refusal(bytes, r),
     }
 }
@@ -76,14 +76,14 @@ fn act_refusal(bytes: &[u8], k: u32, r: u32, a: u32, b: u32) -> u32
 fn kind_refusal(k: u32) -> u32
     ensures { result ≡ kind_number k }
 {
-    words::refusal(is_outside(1, kinds::LAST_KIND, k), refusals::KIND)
+    words::refusal(is_outside(1, kind_numbers::LAST_KIND, k), refusal_numbers::KIND)
 }
 
 // 31: "the bytes are no hall's stored form".
 pub fn bytes_refusal(bytes: &[u8]) -> u32
     ensures { result ≡ bytes_number bytes.now }
 {
-    if is_hall(bytes) { 0 } else { refusals::BYTES }
+    if is_hall(bytes) { 0 } else { refusal_numbers::BYTES }
 }
 
 // 11 and 31.

@@ -19,7 +19,7 @@ use answer::{Answer, Settled, is_accepted};
 use codec::{put_bytes, same};
 use hall::{View, view_count};
 use model::limits::MAX_TURNS;
-use model::refusals;
+use model::refusal_numbers;
 use settling::{Turn, bar_refusal, find_turn, greatest_view, settle_refusal, view_word};
 use step::{bytes_refusal, early_refusal, refusal_hall, step_hall};
 use store::layout;
@@ -33,7 +33,7 @@ const HALL: usize = layout::LENGTH;
 fn undo_refusal(undo: &[u8]) -> u32
     ensures { result ≡ undo_number undo.now }
 {
-    if is_undo(undo) { 0 } else { refusals::UNDO }
+    if is_undo(undo) { 0 } else { refusal_numbers::UNDO }
 }
 
 // The number that `step_held` would answer with, 0 for a step that is taken: judged, and not performed.
@@ -110,7 +110,7 @@ fn take_turns(hall: &mut [u8], undo: &mut [u8], v: View) -> Settled
     while count < MAX_TURNS as u32 {
         match find_turn(hall, v) {
             Turn::Takes(k, r) => take_call(hall, undo, v, k, r),
-            Turn::Full => return Settled::Refused(refusals::FULL),
+            Turn::Full => return Settled::Refused(refusal_numbers::FULL),
             Turn::Nothing => return Settled::Count(count),
         }
         count += 1;
@@ -161,12 +161,12 @@ fn step_back_refusal(hall: &[u8], undo: &[u8]) -> u32
         return held;
     }
     if count(undo) == 0 {
-        return refusals::UNDO;
+        return refusal_numbers::UNDO;
     }
     if leads_back(hall, undo) {
         0
     } else {
-        refusals::UNDO
+        refusal_numbers::UNDO
     }
 }
 

@@ -24,7 +24,7 @@ ghost use Rattle.undo.specs.Code.{places_in, action_of, Accepts, RoomMade, Holdi
 use client::first_waiting;
 use codec::{Waiting, clear, copy_bytes, get_u32, is_zero, move_down, put_byte, put_u32};
 use hall::{endpoint_at, entry_count, find_view, read_recorder, recorder_at, view_count};
-use model::kinds;
+use model::kind_numbers;
 use store::layout;
 
 // How many slots there are.
@@ -216,17 +216,17 @@ fn parts_of(b: &[u8], k: u32, r: u32, a: u32, d: u32) -> Parts
     ensures { places_in result ≡ parts b.now (words_of k r a d) }
 {
     match k {
-        kinds::SUBMIT => new_entry(b),
-        kinds::LABEL => recorder_and_entry(b, r),
-        kinds::SEND_ENTRY => recorder_and_endpoint(b, r),
-        kinds::SEND_SUMMARY => recorder_and_endpoint(b, r),
-        kinds::FORM => new_view(b),
-        kinds::ENTER => recorder_alone(r),
-        kinds::PLACE => queue_and_endpoint(b, r, a),
-        kinds::RECEIVE => recorder_and_endpoint(b, r),
-        kinds::NOTICE => recorder_and_endpoint(b, r),
-        kinds::CONFIRM => recorder_alone(r),
-        // kinds::DELIVER
+        kind_numbers::SUBMIT => new_entry(b),
+        kind_numbers::LABEL => recorder_and_entry(b, r),
+        kind_numbers::SEND_ENTRY => recorder_and_endpoint(b, r),
+        kind_numbers::SEND_SUMMARY => recorder_and_endpoint(b, r),
+        kind_numbers::FORM => new_view(b),
+        kind_numbers::ENTER => recorder_alone(r),
+        kind_numbers::PLACE => queue_and_endpoint(b, r, a),
+        kind_numbers::RECEIVE => recorder_and_endpoint(b, r),
+        kind_numbers::NOTICE => recorder_and_endpoint(b, r),
+        kind_numbers::CONFIRM => recorder_alone(r),
+        // kind_numbers::DELIVER
         _ => recorder_alone(r),
     }
 }

@@ -1,20 +1,20 @@
--- Each arm gives the numbers of its case. Assumes nothing.
-use mathlib.Core.Path.{◌≡◌, refl, ap, ◌∙◌}
+-- By the two cases. Assumes nothing.
+use mathlib.Core.Path.{◌≡◌, ap, ◌∙◌}
 use mir.Facts.{to_z-of_z}
 use mir.Syntax.{w32}
 use borrow.Author.Rules.{rules}
 use Rattle.model.specs.Answers.{word}
 use Rattle.model.specs.Page.{plain_page}
-use Rattle.answer.specs.Meaning.{page_of, page_meaning}
+use Rattle.answer.specs.Meaning.{page_of}
 use Rattle.answer.proofs.plain_page.Goals as goal
 
-pub returns-in-Shown : goal.returns-in-Shown
-unfolding plain_page page_of page_meaning
-returns-in-Shown c =
-    let margin = c.in-Shown.p.margin in
+pub returns-in-Ok : goal.returns-in-Ok
+unfolding plain_page page_of
+returns-in-Ok c =
+    let margin = c.in-Ok.p.margin in
     let e : c.word.result ≡ word margin = c.word.ensures ∙ ap word (to_z-of_z {w = w32} {z = margin} (record { sfits = search rules })) in
-    rw c.in-Shown.is (record { number = refl; values = cc e })
+    rw c.in-Ok.is (record { number = c.taken.ensures.number; values = c.taken.ensures.values ∙ cc e })
 
-pub returns-in-Refused : goal.returns-in-Refused
-unfolding plain_page page_meaning
-returns-in-Refused c = rw c.in-Refused.is (record { number = refl; values = refl })
+pub returns-in-Err : goal.returns-in-Err
+unfolding plain_page
+returns-in-Err c = rw c.in-Err.is (record { number = c.refused.ensures.number; values = c.refused.ensures.values })
