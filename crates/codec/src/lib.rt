@@ -255,23 +255,15 @@ pub fn byte_at(l: ByteList, k: usize) -> u8
     l.places[k - 1]
 }
 
-// The first of some numbers: "nothing waits" is Nothing.
-#[derive(Clone, Copy)]
-pub enum Waiting {
-    Found(u8),
-    Nothing,
-}
-
 // The first byte of a list.
-pub fn first_of(l: ByteList) -> Waiting
+pub fn first_of(l: ByteList) -> Option<u8>
     requires { l.len ≤ list_capacity }
     ensures { found_of result ≡ first_of (items l) }
 {
     if l.len == 0 {
-        return Waiting::Nothing;
+        return None;
     }
-    let x = l.places[0];
-    Waiting::Found(x)
+    Some(l.places[0])
 }
 
 // A list without its first byte.
