@@ -16,6 +16,7 @@ use Rattle.codec.specs.Form.{Form}
 use Rattle.codec.proofs.CellsLaws.{suc-cells, valid_all-rest}
 use Rattle.codec.specs.Cells.{valid_all, decode_all, cells}
 use Rattle.codec.specs.Bounded.{bounded}
+use Rattle.ranges.specs.Tests.{tested}
 use Rattle.codec.proofs.BoundedLaws.{bounded-valid, bounded-decode}
 
 module _ {A : Type 0} {k : ℕ} (F : Form A k) where
@@ -118,3 +119,8 @@ module _ {A : Type 0} {k : ℕ} (F : Form A k) where
           cells-part
           ∙ ap (λ (u : Bool). u && all_zero (part (o + m * k) (t - (o + m * k)) b))
           (l ∙ ap (λ (x : ℕ). valid_all F x (drop (o + i * k) b)) z)
+
+-- cells by their tests alone
+pub by_test : {A : Type 0} {k : ℕ} (F : Form A k) (m n : ℕ) (b : List ℕ) → (cells (tested k F.valid) m n).valid b ≡ (cells F m n).valid b
+unfolding tested
+by_test {A} {k} F m n b = cells_same (tested k F.valid) F (λ x. refl) m n b

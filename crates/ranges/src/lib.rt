@@ -5,7 +5,7 @@
 
 #![tactic(auto)]
 
-ghost use Rattle.std.specs.Prelude.{◌≡◌, ◌+◌, ◌-◌, ◌*◌, ◌≤◌, ◌<◌, length, take};
+ghost use Rattle.std.specs.Prelude.{◌≡◌, ℕ, Bool, List, ◌+◌, ◌-◌, ◌*◌, ◌≤◌, ◌<◌, length, take};
 ghost use Rattle.codec.specs.Bytes.{part};
 ghost use Rattle.codec.specs.Number.{byte, mark};
 ghost use Rattle.codec.specs.Cells.{cells};
@@ -20,6 +20,7 @@ ghost use Rattle.store.specs.CellForms.{entry_form, summary_form, sent_form, rec
 ghost use Rattle.store.specs.CellForms.{endpoint_form, queued_form, queue_form, vote_form};
 ghost use Rattle.store.specs.ViewForm.{view_form, views_form};
 ghost use Rattle.store.specs.HallForm.{entries_form, hall_fields};
+ghost use Rattle.ranges.specs.Tests.{tested, Tests};
 ghost use Rattle.ranges.specs.CellParts.{whole_label, recorder_rest};
 ghost use Rattle.ranges.specs.TableParts.{view_numbers, Found, tables_in};
 
@@ -39,6 +40,21 @@ const SEQUENCE_MARK: u8 = SEQUENCE + 1;
 const ORDER_MARK: u8 = limits::MAX_ORDER as u8 + 1;
 
 const QUEUE_MARK: u8 = limits::MAX_QUEUE as u8 + 1;
+
+// Are the m cells of a table valid, by a test at the cell's offset, and do zeros follow in its other places?
+fn valid_cells<F: Fn(usize) -> bool>(b: &[u8], at: usize, size: usize, m: usize, places: usize, valid: F) -> bool
+    requires within { (m ≤ places) × (at + places * size ≤ length b.now) }
+    requires tested { (i : ℕ) → i < m → F.pre valid (at + i * size) }
+    ensures { (test : List ℕ → Bool) → Tests (F.post valid) test at size m b.now
+        → result ≡ (cells (tested size test) m places).valid (part at (places * size) b.now) }
+{
+    for i in 0..m {
+        if !valid(at + i * size) {
+            return false;
+        }
+    }
+    codec::is_zero(b, at + m * size, at + places * size)
+}
 
 // Is the byte at an offset in lo .. hi?
 fn valid_byte(b: &[u8], at: usize, lo: u8, hi: u8) -> bool
@@ -171,14 +187,7 @@ fn valid_messages(b: &[u8], at: usize, m: usize) -> bool
     requires { (m ≤ max_queue) × (at + messages_size ≤ length b.now) }
     ensures { result ≡ (cells queued_form m max_queue).valid (part at messages_size b.now) }
 {
-    let mut i = 0;
-    while i < m {
-        if !valid_queued(b, at + i * layout::QUEUED) {
-            return false;
-        }
-        i += 1;
-    }
-    codec::is_zero(b, at + m * layout::QUEUED, at + layout::MESSAGES)
+    valid_cells(b, at, layout::QUEUED, m, limits::MAX_QUEUE, |cell| valid_queued(b, cell))
 }
 
 // "A view's queue holds at most 72 messages, each with its source."
@@ -199,14 +208,7 @@ fn valid_entry_cells(b: &[u8], m: usize, n: u8) -> bool
     ensures { result ≡ (cells (entry_form n) m max_entries
         ).valid (part entry_cells (max_entries * entry_size) b.now) }
 {
-    let mut i = 0;
-    while i < m {
-        if !valid_entry(b, layout::ENTRIES + i * layout::ENTRY, n) {
-            return false;
-        }
-        i += 1;
-    }
-    codec::is_zero(b, layout::ENTRIES + m * layout::ENTRY, layout::RECORDERS)
+    valid_cells(b, layout::ENTRIES, layout::ENTRY, m, limits::MAX_ENTRIES, |cell| valid_entry(b, cell, n))
 }
 
 // "Entries, at most 64 ever submitted."
@@ -226,14 +228,7 @@ fn valid_recorders(b: &[u8], n: usize) -> bool
     requires { (n ≤ max_recorders) × (network_at ≤ length b.now) }
     ensures { result ≡ (cells recorder_form n max_recorders).valid (part recorders_at recorders_size b.now) }
 {
-    let mut i = 0;
-    while i < n {
-        if !valid_recorder(b, layout::RECORDERS + i * layout::RECORDER) {
-            return false;
-        }
-        i += 1;
-    }
-    codec::is_zero(b, layout::RECORDERS + n * layout::RECORDER, layout::NETWORK)
+    valid_cells(b, layout::RECORDERS, layout::RECORDER, n, limits::MAX_RECORDERS, |cell| valid_recorder(b, cell))
 }
 
 // A recorder's endpoints in m views, and zeros.
@@ -241,14 +236,7 @@ fn valid_row(b: &[u8], at: usize, m: usize) -> bool
     requires { (m ≤ max_views) × (at + row_size ≤ length b.now) }
     ensures { result ≡ (cells endpoint_form m max_views).valid (part at row_size b.now) }
 {
-    let mut i = 0;
-    while i < m {
-        if !valid_endpoint(b, at + i * layout::ENDPOINT) {
-            return false;
-        }
-        i += 1;
-    }
-    codec::is_zero(b, at + m * layout::ENDPOINT, at + layout::ROW)
+    valid_cells(b, at, layout::ENDPOINT, m, limits::MAX_VIEWS, |cell| valid_endpoint(b, cell))
 }
 
 // The endpoints of n recorders in m views, and zeros.
@@ -257,14 +245,7 @@ fn valid_network(b: &[u8], n: usize, m: usize) -> bool
     ensures { result ≡ (cells (cells endpoint_form m max_views) n max_recorders
         ).valid (part network_at network_size b.now) }
 {
-    let mut i = 0;
-    while i < n {
-        if !valid_row(b, layout::NETWORK + i * layout::ROW, m) {
-            return false;
-        }
-        i += 1;
-    }
-    codec::is_zero(b, layout::NETWORK + n * layout::ROW, layout::QUEUES)
+    valid_cells(b, layout::NETWORK, layout::ROW, n, limits::MAX_RECORDERS, |cell| valid_row(b, cell, m))
 }
 
 // The queues of m views, and zeros.
@@ -272,14 +253,7 @@ fn valid_queues(b: &[u8], m: usize) -> bool
     requires { (m ≤ max_views) × (votes_at ≤ length b.now) }
     ensures { result ≡ (cells queue_form m max_views).valid (part queues_at queues_size b.now) }
 {
-    let mut i = 0;
-    while i < m {
-        if !valid_queue(b, layout::QUEUES + i * layout::QUEUE) {
-            return false;
-        }
-        i += 1;
-    }
-    codec::is_zero(b, layout::QUEUES + m * layout::QUEUE, layout::VOTES)
+    valid_cells(b, layout::QUEUES, layout::QUEUE, m, limits::MAX_VIEWS, |cell| valid_queue(b, cell))
 }
 
 // A recorder's votes: "0 to 1,000 each" (02, A4).
@@ -295,14 +269,7 @@ fn valid_votes(b: &[u8], n: usize) -> bool
     requires { (n ≤ max_recorders) × (stored_length ≤ length b.now) }
     ensures { result ≡ (cells vote_form n max_recorders).valid (part votes_at votes_size b.now) }
 {
-    let mut i = 0;
-    while i < n {
-        if !valid_vote(b, layout::VOTES + i * layout::WORD) {
-            return false;
-        }
-        i += 1;
-    }
-    codec::is_zero(b, layout::VOTES + n * layout::WORD, layout::LENGTH)
+    valid_cells(b, layout::VOTES, layout::WORD, n, limits::MAX_RECORDERS, |cell| valid_vote(b, cell))
 }
 
 // A view's number, 1 on, and set, "not empty and within N".
@@ -320,14 +287,7 @@ fn valid_view_cells(b: &[u8], m: usize, n: u8) -> bool
     ensures { result ≡ (cells (view_form n) m max_views
         ).valid (part view_cells (max_views * view_size) b.now) }
 {
-    let mut i = 0;
-    while i < m {
-        if !valid_view(b, layout::VIEWS + i * layout::VIEW, n) {
-            return false;
-        }
-        i += 1;
-    }
-    codec::is_zero(b, layout::VIEWS + m * layout::VIEW, layout::ENTRY_COUNT)
+    valid_cells(b, layout::VIEWS, layout::VIEW, m, limits::MAX_VIEWS, |cell| valid_view(b, cell, n))
 }
 
 // "Numbers rising."
