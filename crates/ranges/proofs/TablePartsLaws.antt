@@ -2,13 +2,17 @@
 use Prim.Native.Nat.{ℕ, zero, suc, ◌+◌, ◌-◌, ◌*◌, ◌≤◌, ◌<◌}
 use native.Mathlib.Omega.{arith}
 use native.Mathlib.Nat.{not-suc-le-zero, le_of_suc-le-suc}
-use mathlib.Core.Path.{◌≡◌, refl, sym, ap, ap₂, ◌∙◌}
+use mathlib.Core.Path.{◌≡◌, refl, sym, ap, ap₂, subst, ◌∙◌}
 use mathlib.Core.Bool.{Bool, true, false, ◌&&◌, and-eq-true_iff}
 use mathlib.Core.List.{List, ◌∷◌}
 use lib.Dec.{leb, ltb, leb-zero}
 use lib.ListN.{length, get_or, take, drop}
 use lib.Seq.{drop-drop}
 use borrow.Author.Tests.{leb-true, le-leb, lt-leb, lt-ltb, le-ltb}
+use Rattle.std.specs.Prelude.{Option, None, Some, MatchOption}
+use Rattle.std.specs.Option.{unwrap_or}
+use Rattle.std.specs.List.{AllWithin, HoldsAt, range_with_len}
+use Rattle.std.proofs.lemmas.List.FromFn.{length-range_with_len, get_or-range_with_len}
 use Rattle.base.specs.Numbers.{numbers}
 use Rattle.base.specs.Lists.{has, rising}
 use Rattle.base.proofs.Bools.{by_cases}
@@ -27,7 +31,7 @@ use Rattle.store.specs.Cells.{blank_entry}
 use Rattle.store.specs.CellForms.{entry_form, recorder_form, endpoint_form, queue_form, vote_form}
 use Rattle.store.specs.ViewForm.{Views, view_form, numbers_of, numbers_rise, view_list, views_form}
 use Rattle.store.specs.HallForm.{entries_form, recorders_form, row_form, network_form, queues_form, votes_form, body_form, after_size, fields, hall_fields}
-use Rattle.ranges.specs.TableParts.{view_numbers, Found, tables_in}
+use Rattle.ranges.specs.TableParts.{view_numbers, view_at, Found, tables_in}
 use Rattle.ranges.proofs.Parts.{given-part, pair-part, given-value, byte-part}
 use Rattle.ranges.proofs.Loops.{cells_same, bounded-part, bounded-value}
 
@@ -62,6 +66,32 @@ module _ (m : ℕ) (b : List ℕ) (g : ℕ) where
     where
       early : has ks g ≡ true → index_of ks g < i
       early t = omega (arith, inside t)
+
+-- the indices below m, as a list: what holds of element j holds of j
+index-range : (P : ℕ → Type 0) (m j : ℕ) → j < m → P (get_or (range_with_len 0 m) j 0) → P j
+index-range P m j l p =
+    let e : 0 + j ≡ j = omega arith in
+    subst P (get_or-range_with_len 0 m j 0 l ∙ e) p
+
+-- a search over them finds the first view g
+pub found-first : (m : ℕ) (b : List ℕ) (g : ℕ) (r : Option ℕ)
+    → MatchOption r (AllWithin (λ i. view_at b i ≡ g → ⊥) (range_with_len 0 m) 0 (length (range_with_len 0 m)))
+    (λ i. (i < length (range_with_len 0 m)) × HoldsAt (λ i. view_at b i ≡ g) (range_with_len 0 m) i × AllWithin (λ i. view_at b i ≡ g → ⊥) (range_with_len 0 m) 0 i)
+    → Found m b g (unwrap_or r m)
+found-first m b g None h =
+    let n = length-range_with_len 0 m in
+    record {
+      within = omega arith;
+      here = λ l. absurd (omega arith);
+      before = λ j l. index-range (λ i. view_at b i ≡ g → ⊥) m j l (h j 0 (omega arith) (omega (arith, n)));
+    }
+found-first m b g (Some i) h =
+    let n = length-range_with_len 0 m in
+    record {
+      within = omega (arith, n, h.0);
+      here = λ l. index-range (λ i. view_at b i ≡ g) m i l (h.1 0);
+      before = λ j l. index-range (λ i. view_at b i ≡ g → ⊥) m j (omega (arith, n, h.0)) (h.2 j 0 (omega arith) l);
+    }
 
 -- the number of the view at offset o
 view-number : (n o : ℕ) (b : List ℕ) → ((view_form n).decode (part o view_size b)).0 ≡ value (part o number_size b)

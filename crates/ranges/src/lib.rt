@@ -14,7 +14,7 @@ ghost use Rattle.base.specs.Lists.{rising};
 ghost use Rattle.model.specs.Hall.{max_entries, max_views, max_queue, max_recorders};
 ghost use Rattle.store.specs.Layout.{views_at, view_cells, entries_at, entry_cells, recorders_at, network_at, queues_at, votes_at};
 ghost use Rattle.store.specs.Layout.{stored_length, views_size, entries_size, recorders_size, network_size, queues_size, votes_size};
-ghost use Rattle.store.specs.Layout.{view_size, entry_size, recorder_size, endpoint_size, row_size, summary_size};
+ghost use Rattle.store.specs.Layout.{view_size, entry_size, recorder_size, recorder_confirm_at, endpoint_size, row_size, summary_size};
 ghost use Rattle.store.specs.Layout.{queue_size, number_size, word_size, sets_size, sent_size, queued_size, messages_size};
 ghost use Rattle.store.specs.CellForms.{entry_form, summary_form, sent_form, recorder_form};
 ghost use Rattle.store.specs.CellForms.{endpoint_form, queued_form, queue_form, vote_form};
@@ -22,7 +22,7 @@ ghost use Rattle.store.specs.ViewForm.{view_form, views_form};
 ghost use Rattle.store.specs.HallForm.{entries_form, hall_fields};
 ghost use Rattle.ranges.specs.Tests.{tested, Tests};
 ghost use Rattle.ranges.specs.CellParts.{whole_label, recorder_rest};
-ghost use Rattle.ranges.specs.TableParts.{view_numbers, Found, tables_in};
+ghost use Rattle.ranges.specs.TableParts.{view_numbers, view_at, Found, tables_in};
 
 use model::{limits, phases};
 use quorum::{MAX_VOTE, all_of};
@@ -42,7 +42,14 @@ const ORDER_MARK: u8 = limits::MAX_ORDER as u8 + 1;
 const QUEUE_MARK: u8 = limits::MAX_QUEUE as u8 + 1;
 
 // Are the m cells of a table valid, by a test at the cell's offset, and do zeros follow in its other places?
-fn valid_cells<F: Fn(usize) -> bool>(b: &[u8], at: usize, size: usize, m: usize, places: usize, valid: F) -> bool
+fn valid_cells<F: Fn(usize) -> bool>(
+    b: &[u8],
+    at: usize,
+    size: usize,
+    m: usize,
+    places: usize,
+    valid: F,
+) -> bool
     requires within { (m ≤ places) × (at + places * size ≤ length b.now) }
     requires tested { (i : ℕ) → i < m → F.pre valid (at + i * size) }
     ensures { (test : List ℕ → Bool) → Tests (F.post valid) test at size m b.now
@@ -93,8 +100,8 @@ fn valid_entry(b: &[u8], at: usize, n: u8) -> bool
     requires { at + entry_size ≤ length b.now }
     ensures { result ≡ (entry_form n).valid (part at entry_size b.now) }
 {
-    let view = at + layout::ENTRY_PAYLOAD + layout::PAYLOAD;
-    let seq = view + layout::NUMBER;
+    let view = at + layout::ENTRY_LABEL;
+    let seq = at + layout::ENTRY_SEQUENCE;
     valid_byte(b, at, 1, n)
         & valid_byte(b, seq, 0, SEQUENCE)
         & whole_label(codec::get_u32(b, view), b[seq])
@@ -105,11 +112,9 @@ fn valid_summary(b: &[u8], at: usize) -> bool
     requires { at + summary_size ≤ length b.now }
     ensures { result ≡ summary_form.valid (part at summary_size b.now) }
 {
-    let order = at + layout::SUMMARY_ORDER;
-    let confirm = order + layout::ORDER;
     valid_flags(b, at, limits::MAX_ENTRIES)
-        & codec::valid_list(b, order, limits::MAX_ORDER, 1, ENTRIES)
-        & valid_mark(b, confirm, ORDER_MARK)
+        & codec::valid_list(b, at + layout::SUMMARY_ORDER, limits::MAX_ORDER, 1, ENTRIES)
+        & valid_mark(b, at + layout::SUMMARY_CONFIRM, ORDER_MARK)
 }
 
 // "At most one sent summary": a count, and the summary or zeros.
@@ -129,20 +134,15 @@ fn valid_sent(b: &[u8], at: usize) -> bool
 
 // A recorder's fields after its order: marks, highest primary, known, safe, heard, safe sources.
 fn valid_recorder_rest(b: &[u8], at: usize) -> bool
-    requires { at + (1 + (1 + (number_size + sets_size))) ≤ length b.now }
-    ensures { result ≡ recorder_rest at b.now }
+    requires { at + recorder_size ≤ length b.now }
+    ensures { result ≡ recorder_rest (at + recorder_confirm_at) b.now }
 {
-    let report = at + 1;
-    let high = report + 1;
-    let known = high + layout::NUMBER;
-    let safe = known + limits::MAX_ENTRIES;
-    let heard = safe + limits::MAX_ENTRIES;
-    valid_mark(b, at, ORDER_MARK)
-        & valid_mark(b, report, ORDER_MARK)
-        & valid_flags(b, known, limits::MAX_ENTRIES)
-        & valid_flags(b, safe, limits::MAX_ENTRIES)
-        & valid_flags(b, heard, limits::MAX_RECORDERS)
-        & valid_flags(b, heard + limits::MAX_RECORDERS, limits::MAX_RECORDERS)
+    valid_mark(b, at + layout::RECORDER_CONFIRM, ORDER_MARK)
+        & valid_mark(b, at + layout::RECORDER_REPORT, ORDER_MARK)
+        & valid_flags(b, at + layout::RECORDER_KNOWN, limits::MAX_ENTRIES)
+        & valid_flags(b, at + layout::RECORDER_SAFE, limits::MAX_ENTRIES)
+        & valid_flags(b, at + layout::RECORDER_HEARD, limits::MAX_RECORDERS)
+        & valid_flags(b, at + layout::RECORDER_SAFE_SOURCES, limits::MAX_RECORDERS)
 }
 
 // "For each recorder: current view, phase, known entries, .."
@@ -150,15 +150,27 @@ fn valid_recorder(b: &[u8], at: usize) -> bool
     requires { at + recorder_size ≤ length b.now }
     ensures { result ≡ recorder_form.valid (part at recorder_size b.now) }
 {
-    let phase = at + layout::NUMBER;
-    let next = phase + 1;
-    let buffer = next + 1;
-    let order = buffer + layout::BUFFER;
-    valid_byte(b, phase, phases::NORMAL, phases::COLLECT)
-        & valid_mark(b, next, SEQUENCE_MARK)
-        & codec::valid_list(b, buffer, limits::MAX_BUFFER, 1, ENTRIES)
-        & codec::valid_list(b, order, limits::MAX_ORDER, 1, ENTRIES)
-        & valid_recorder_rest(b, order + layout::ORDER)
+    valid_byte(
+        b,
+        at + layout::RECORDER_PHASE,
+        phases::NORMAL,
+        phases::COLLECT,
+    ) & valid_mark(b, at + layout::RECORDER_SEQUENCE, SEQUENCE_MARK)
+        & codec::valid_list(
+            b,
+            at + layout::RECORDER_BUFFER,
+            limits::MAX_BUFFER,
+            1,
+            ENTRIES,
+        )
+        & codec::valid_list(
+            b,
+            at + layout::RECORDER_ORDER,
+            limits::MAX_ORDER,
+            1,
+            ENTRIES,
+        )
+        & valid_recorder_rest(b, at)
 }
 
 // "For each recorder and view: a pending list, receive and safe marks, and at most one sent summary."
@@ -166,12 +178,10 @@ fn valid_endpoint(b: &[u8], at: usize) -> bool
     requires { at + endpoint_size ≤ length b.now }
     ensures { result ≡ endpoint_form.valid (part at endpoint_size b.now) }
 {
-    let receive = at + layout::PENDING;
-    let safe = receive + 1;
     codec::valid_list(b, at, limits::MAX_PENDING, 0, ENTRIES)
-        & valid_mark(b, receive, QUEUE_MARK)
-        & valid_mark(b, safe, QUEUE_MARK)
-        & valid_sent(b, safe + 1)
+        & valid_mark(b, at + layout::ENDPOINT_NEXT, QUEUE_MARK)
+        & valid_mark(b, at + layout::ENDPOINT_NEXT_SAFE, QUEUE_MARK)
+        & valid_sent(b, at + layout::ENDPOINT_SENT)
 }
 
 // A queued message "with its source".
@@ -187,7 +197,14 @@ fn valid_messages(b: &[u8], at: usize, m: usize) -> bool
     requires { (m ≤ max_queue) × (at + messages_size ≤ length b.now) }
     ensures { result ≡ (cells queued_form m max_queue).valid (part at messages_size b.now) }
 {
-    valid_cells(b, at, layout::QUEUED, m, limits::MAX_QUEUE, |cell| valid_queued(b, cell))
+    valid_cells(
+        b,
+        at,
+        layout::QUEUED,
+        m,
+        limits::MAX_QUEUE,
+        |cell| valid_queued(b, cell),
+    )
 }
 
 // "A view's queue holds at most 72 messages, each with its source."
@@ -208,7 +225,14 @@ fn valid_entry_cells(b: &[u8], m: usize, n: u8) -> bool
     ensures { result ≡ (cells (entry_form n) m max_entries
         ).valid (part entry_cells (max_entries * entry_size) b.now) }
 {
-    valid_cells(b, layout::ENTRIES, layout::ENTRY, m, limits::MAX_ENTRIES, |cell| valid_entry(b, cell, n))
+    valid_cells(
+        b,
+        layout::ENTRIES,
+        layout::ENTRY,
+        m,
+        limits::MAX_ENTRIES,
+        |cell| valid_entry(b, cell, n),
+    )
 }
 
 // "Entries, at most 64 ever submitted."
@@ -228,7 +252,14 @@ fn valid_recorders(b: &[u8], n: usize) -> bool
     requires { (n ≤ max_recorders) × (network_at ≤ length b.now) }
     ensures { result ≡ (cells recorder_form n max_recorders).valid (part recorders_at recorders_size b.now) }
 {
-    valid_cells(b, layout::RECORDERS, layout::RECORDER, n, limits::MAX_RECORDERS, |cell| valid_recorder(b, cell))
+    valid_cells(
+        b,
+        layout::RECORDERS,
+        layout::RECORDER,
+        n,
+        limits::MAX_RECORDERS,
+        |cell| valid_recorder(b, cell),
+    )
 }
 
 // A recorder's endpoints in m views, and zeros.
@@ -236,7 +267,14 @@ fn valid_row(b: &[u8], at: usize, m: usize) -> bool
     requires { (m ≤ max_views) × (at + row_size ≤ length b.now) }
     ensures { result ≡ (cells endpoint_form m max_views).valid (part at row_size b.now) }
 {
-    valid_cells(b, at, layout::ENDPOINT, m, limits::MAX_VIEWS, |cell| valid_endpoint(b, cell))
+    valid_cells(
+        b,
+        at,
+        layout::ENDPOINT,
+        m,
+        limits::MAX_VIEWS,
+        |cell| valid_endpoint(b, cell),
+    )
 }
 
 // The endpoints of n recorders in m views, and zeros.
@@ -245,7 +283,14 @@ fn valid_network(b: &[u8], n: usize, m: usize) -> bool
     ensures { result ≡ (cells (cells endpoint_form m max_views) n max_recorders
         ).valid (part network_at network_size b.now) }
 {
-    valid_cells(b, layout::NETWORK, layout::ROW, n, limits::MAX_RECORDERS, |cell| valid_row(b, cell, m))
+    valid_cells(
+        b,
+        layout::NETWORK,
+        layout::ROW,
+        n,
+        limits::MAX_RECORDERS,
+        |cell| valid_row(b, cell, m),
+    )
 }
 
 // The queues of m views, and zeros.
@@ -253,7 +298,14 @@ fn valid_queues(b: &[u8], m: usize) -> bool
     requires { (m ≤ max_views) × (votes_at ≤ length b.now) }
     ensures { result ≡ (cells queue_form m max_views).valid (part queues_at queues_size b.now) }
 {
-    valid_cells(b, layout::QUEUES, layout::QUEUE, m, limits::MAX_VIEWS, |cell| valid_queue(b, cell))
+    valid_cells(
+        b,
+        layout::QUEUES,
+        layout::QUEUE,
+        m,
+        limits::MAX_VIEWS,
+        |cell| valid_queue(b, cell),
+    )
 }
 
 // A recorder's votes: "0 to 1,000 each" (02, A4).
@@ -269,7 +321,14 @@ fn valid_votes(b: &[u8], n: usize) -> bool
     requires { (n ≤ max_recorders) × (stored_length ≤ length b.now) }
     ensures { result ≡ (cells vote_form n max_recorders).valid (part votes_at votes_size b.now) }
 {
-    valid_cells(b, layout::VOTES, layout::WORD, n, limits::MAX_RECORDERS, |cell| valid_vote(b, cell))
+    valid_cells(
+        b,
+        layout::VOTES,
+        layout::WORD,
+        n,
+        limits::MAX_RECORDERS,
+        |cell| valid_vote(b, cell),
+    )
 }
 
 // A view's number, 1 on, and set, "not empty and within N".
@@ -287,7 +346,22 @@ fn valid_view_cells(b: &[u8], m: usize, n: u8) -> bool
     ensures { result ≡ (cells (view_form n) m max_views
         ).valid (part view_cells (max_views * view_size) b.now) }
 {
-    valid_cells(b, layout::VIEWS, layout::VIEW, m, limits::MAX_VIEWS, |cell| valid_view(b, cell, n))
+    valid_cells(
+        b,
+        layout::VIEWS,
+        layout::VIEW,
+        m,
+        limits::MAX_VIEWS,
+        |cell| valid_view(b, cell, n),
+    )
+}
+
+// The number of the view at index i.
+fn view_number(b: &[u8], i: usize) -> u32
+    requires { view_cells + i * view_size + number_size ≤ length b.now }
+    ensures { result ≡ view_at b.now i }
+{
+    codec::get_u32(b, layout::VIEWS + i * layout::VIEW)
 }
 
 // "Numbers rising."
@@ -296,14 +370,12 @@ fn views_rise(b: &[u8], m: usize) -> bool
     ensures { result ≡ rising 0 (view_numbers m view_cells b.now) }
 {
     let mut last = 0;
-    let mut i = 0;
-    while i < m {
-        let g = codec::get_u32(b, layout::VIEWS + i * layout::VIEW);
+    for i in 0..m {
+        let g = view_number(b, i);
         if g <= last {
             return false;
         }
         last = g;
-        i += 1;
     }
     true
 }
@@ -313,14 +385,7 @@ pub fn find_view(b: &[u8], m: usize, g: u32) -> usize
     requires { (m ≤ max_views) × (entries_at ≤ length b.now) }
     ensures { Found m b.now g result }
 {
-    let mut i = 0;
-    while i < m {
-        if codec::get_u32(b, layout::VIEWS + i * layout::VIEW) == g {
-            return i;
-        }
-        i += 1;
-    }
-    m
+    (0..m).position(|i| view_number(b, i) == g).unwrap_or(m)
 }
 
 // "The formed views, at most 32, numbers rising, sets not empty and within N."

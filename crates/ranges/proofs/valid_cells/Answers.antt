@@ -2,7 +2,7 @@ use native.Mathlib.Omega.{arith}
 use mathlib.Core.Path.{sym, refl, ◌∙◌}
 use Prim.Native.Nat.{◌+◌, ◌*◌}
 use Rattle.ranges.specs.Tests.{tested}
-use Rattle.ranges.proofs.Loops.{left-start, left-next, cells-fail, cells-done}
+use Rattle.ranges.proofs.Loops.{left-next, cells-fail, cells-done}
 use Rattle.ranges.proofs.valid_cells.Goals as goal
 
 pub returns-then-not-valid : goal.returns-then-not-valid

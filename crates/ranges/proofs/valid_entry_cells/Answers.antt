@@ -3,7 +3,6 @@ use borrow.Author.Rules.{rules}
 use mathlib.Core.Path.{◌∙◌}
 use Rattle.model.specs.Hall.{max_entries}
 use Rattle.store.specs.CellForms.{entry_form}
-use Rattle.store.specs.Layout.{entry_cells, recorders_at}
 use Rattle.ranges.proofs.Loops.{by_test}
 use Rattle.ranges.proofs.valid_entry_cells.Goals as goal
 

@@ -3,7 +3,6 @@ use borrow.Author.Rules.{rules}
 use mathlib.Core.Path.{◌∙◌}
 use Rattle.model.specs.Hall.{max_queue}
 use Rattle.store.specs.CellForms.{queued_form}
-use Rattle.store.specs.Layout.{messages_size}
 use Rattle.ranges.proofs.Loops.{by_test}
 use Rattle.ranges.proofs.valid_messages.Goals as goal
 

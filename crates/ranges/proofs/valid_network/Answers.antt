@@ -4,7 +4,6 @@ use mathlib.Core.Path.{◌∙◌}
 use Rattle.model.specs.Hall.{max_views, max_recorders}
 use Rattle.codec.specs.Cells.{cells}
 use Rattle.store.specs.CellForms.{endpoint_form}
-use Rattle.store.specs.Layout.{network_at, queues_at}
 use Rattle.ranges.proofs.Loops.{by_test}
 use Rattle.ranges.proofs.valid_network.Goals as goal
 

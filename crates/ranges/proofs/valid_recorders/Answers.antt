@@ -3,7 +3,6 @@ use borrow.Author.Rules.{rules}
 use mathlib.Core.Path.{◌∙◌}
 use Rattle.model.specs.Hall.{max_recorders}
 use Rattle.store.specs.CellForms.{recorder_form}
-use Rattle.store.specs.Layout.{recorders_at, network_at}
 use Rattle.ranges.proofs.Loops.{by_test}
 use Rattle.ranges.proofs.valid_recorders.Goals as goal
 

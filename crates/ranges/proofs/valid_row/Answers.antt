@@ -3,7 +3,6 @@ use borrow.Author.Rules.{rules}
 use mathlib.Core.Path.{◌∙◌}
 use Rattle.model.specs.Hall.{max_views}
 use Rattle.store.specs.CellForms.{endpoint_form}
-use Rattle.store.specs.Layout.{row_size}
 use Rattle.ranges.proofs.Loops.{by_test}
 use Rattle.ranges.proofs.valid_row.Goals as goal
 

@@ -3,7 +3,6 @@ use borrow.Author.Rules.{rules}
 use mathlib.Core.Path.{◌∙◌}
 use Rattle.model.specs.Hall.{max_views}
 use Rattle.store.specs.ViewForm.{view_form}
-use Rattle.store.specs.Layout.{view_cells, entries_at}
 use Rattle.ranges.proofs.Loops.{by_test}
 use Rattle.ranges.proofs.valid_view_cells.Goals as goal
 

@@ -13,12 +13,12 @@ returns-then-g-last c =
     let a = c.args in
     sym
     (rises-fail a.m a.b.now c.loop-i.i c.loop-i.last c.loop-i-test.true
-    (subst (λ (g : ℕ). g ≤ c.loop-i.last) c.get_u32-g.ensures c.if-g-last.true) c.loop-i.invariant.1)
+    (subst (λ (g : ℕ). g ≤ c.loop-i.last) c.view_number-g.ensures c.if-g-last.true) c.loop-i.invariant.1)
 
 pub loop-i-preserved : goal.loop-i-preserved
 loop-i-preserved c =
     let a = c.args in
-    let e = c.get_u32-g.ensures in (
+    let e = c.view_number-g.ensures in (
       search rules,
       subst (Rises a.m a.b.now (c.loop-i.i + 1)) (sym e)
           (rises_next a.m a.b.now c.loop-i.i c.loop-i.last c.loop-i-test.true
