@@ -124,3 +124,11 @@ module _ {A : Type 0} {k : ℕ} (F : Form A k) where
 pub by_test : {A : Type 0} {k : ℕ} (F : Form A k) (m n : ℕ) (b : List ℕ) → (cells (tested k F.valid) m n).valid b ≡ (cells F m n).valid b
 unfolding tested
 by_test {A} {k} F m n b = cells_same (tested k F.valid) F (λ x. refl) m n b
+
+-- and where a count stands before them
+pub bounded-by_test : {A : Type 0} {k : ℕ} (F : Form A k) (cap o : ℕ) (b : List ℕ) → o + (1 + cap * k) ≤ length b
+    → (bounded (tested k F.valid) cap).valid (part o (1 + cap * k) b) ≡ (bounded F cap).valid (part o (1 + cap * k) b)
+bounded-by_test {A} {k} F cap o b h =
+    bounded-part (tested k F.valid) cap o b h
+    ∙ ap (λ (t : Bool). leb (get_or b o 0) cap && t) (by_test F (get_or b o 0) cap (part (o + 1) (cap * k) b))
+    ∙ sym (bounded-part F cap o b h)

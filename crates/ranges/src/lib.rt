@@ -5,10 +5,11 @@
 
 #![tactic(auto)]
 
-ghost use Rattle.std.specs.Prelude.{◌≡◌, ℕ, Bool, List, ◌+◌, ◌-◌, ◌*◌, ◌≤◌, ◌<◌, length, take};
+ghost use Rattle.std.specs.Prelude.{◌≡◌, ℕ, Bool, List, IsTrue, ◌+◌, ◌-◌, ◌*◌, ◌≤◌, ◌<◌, length, get_or, take};
 ghost use Rattle.codec.specs.Bytes.{part};
 ghost use Rattle.codec.specs.Number.{byte, mark};
 ghost use Rattle.codec.specs.Cells.{cells};
+ghost use Rattle.codec.specs.Bounded.{bounded};
 ghost use Rattle.codec.specs.Table.{flags};
 ghost use Rattle.base.specs.Lists.{rising};
 ghost use Rattle.model.specs.Hall.{max_entries, max_views, max_queue, max_recorders};
@@ -41,26 +42,52 @@ const ORDER_MARK: u8 = limits::MAX_ORDER as u8 + 1;
 
 const QUEUE_MARK: u8 = limits::MAX_QUEUE as u8 + 1;
 
-// Are the m cells of a table valid, by a test at the cell's offset, and do zeros follow in its other places?
-fn valid_cells<F: Fn(usize) -> bool>(
-    b: &[u8],
+// A table of cells: the offset at which it begins, the size of a cell, and how many places it has.
+#[derive(Clone, Copy)]
+struct Table {
     at: usize,
     size: usize,
-    m: usize,
     places: usize,
-    valid: F,
-) -> bool
-    requires within { (m ≤ places) × (at + places * size ≤ length b.now) }
-    requires tested { (i : ℕ) → i < m → F.pre valid (at + i * size) }
-    ensures { (test : List ℕ → Bool) → Tests (F.post valid) test at size m b.now
-        → result ≡ (cells (tested size test) m places).valid (part at (places * size) b.now) }
-{
-    for i in 0..m {
-        if !valid(at + i * size) {
-            return false;
+}
+
+impl Table {
+    // Are its first m cells valid, by a test at a cell's offset, and do zeros follow in its other places?
+    fn valid_cells<F: Fn(usize) -> bool>(self, b: &[u8], m: usize, valid: F) -> bool
+        requires within { (m ≤ self.places) × (self.at + self.places * self.size ≤ length b.now) }
+        requires tested { (i : ℕ) → i < m → F.pre valid (self.at + i * self.size) }
+        ensures { (test : List ℕ → Bool) → Tests (F.post valid) test self.at self.size m b.now
+            → result ≡ (cells (tested self.size test) m self.places
+            ).valid (part self.at (self.places * self.size) b.now) }
+    {
+        for i in 0..m {
+            if !valid(self.at + i * self.size) {
+                return false;
+            }
         }
+        codec::is_zero(
+            b,
+            self.at + m * self.size,
+            self.at + self.places * self.size,
+        )
     }
-    codec::is_zero(b, at + m * size, at + places * size)
+
+    // Where a table begins with a byte that says how many cells are in use: is it no more than its places, and are
+    // the cells that follow valid?
+    fn valid_counted<F: Fn(usize) -> bool>(self, b: &[u8], valid: F) -> bool
+        requires within { self.at + (1 + self.places * self.size) ≤ length b.now }
+        requires tested { (i : ℕ) → i < self.places → F.pre valid (self.at + 1 + i * self.size) }
+        ensures count { IsTrue result → get_or b.now self.at 0 ≤ self.places }
+        ensures value { (test : List ℕ → Bool) → Tests (F.post valid) test (self.at + 1) self.size self.places b.now
+            → result ≡ (bounded (tested self.size test) self.places
+            ).valid (part self.at (1 + self.places * self.size) b.now) }
+    {
+        let m = b[self.at] as usize;
+        let cells = Table {
+            at: self.at + 1,
+            ..self
+        };
+        m <= self.places && cells.valid_cells(b, m, valid)
+    }
 }
 
 // Is the byte at an offset in lo .. hi?
@@ -122,14 +149,11 @@ fn valid_sent(b: &[u8], at: usize) -> bool
     requires { at + sent_size ≤ length b.now }
     ensures { result ≡ sent_form.valid (part at sent_size b.now) }
 {
-    let count = b[at];
-    if count == 0 {
-        return codec::is_zero(b, at + 1, at + layout::SENT);
+    match b[at] {
+        0 => codec::is_zero(b, at + 1, at + layout::SENT),
+        1 => valid_summary(b, at + 1),
+        _ => false,
     }
-    if count == 1 {
-        return valid_summary(b, at + 1);
-    }
-    false
 }
 
 // A recorder's fields after its order: marks, highest primary, known, safe, heard, safe sources.
@@ -192,47 +216,17 @@ fn valid_queued(b: &[u8], at: usize) -> bool
     valid_byte(b, at, 1, RECORDERS) & valid_byte(b, at + layout::QUEUED_MESSAGE, 0, ENTRIES)
 }
 
-// The m messages of a queue, and zeros.
-fn valid_messages(b: &[u8], at: usize, m: usize) -> bool
-    requires { (m ≤ max_queue) × (at + messages_size ≤ length b.now) }
-    ensures { result ≡ (cells queued_form m max_queue).valid (part at messages_size b.now) }
-{
-    valid_cells(
-        b,
-        at,
-        layout::QUEUED,
-        m,
-        limits::MAX_QUEUE,
-        |cell| valid_queued(b, cell),
-    )
-}
-
 // "A view's queue holds at most 72 messages, each with its source."
 fn valid_queue(b: &[u8], at: usize) -> bool
     requires { at + queue_size ≤ length b.now }
     ensures { result ≡ queue_form.valid (part at queue_size b.now) }
 {
-    let m = b[at] as usize;
-    if limits::MAX_QUEUE < m {
-        return false;
-    }
-    valid_messages(b, at + 1, m)
-}
-
-// The m entries of a hall of n recorders, and zeros.
-fn valid_entry_cells(b: &[u8], m: usize, n: u8) -> bool
-    requires { (m ≤ max_entries) × (recorders_at ≤ length b.now) }
-    ensures { result ≡ (cells (entry_form n) m max_entries
-        ).valid (part entry_cells (max_entries * entry_size) b.now) }
-{
-    valid_cells(
-        b,
-        layout::ENTRIES,
-        layout::ENTRY,
-        m,
-        limits::MAX_ENTRIES,
-        |cell| valid_entry(b, cell, n),
-    )
+    let messages = Table {
+        at,
+        size: layout::QUEUED,
+        places: limits::MAX_QUEUE,
+    };
+    messages.valid_counted(b, |cell| valid_queued(b, cell))
 }
 
 // "Entries, at most 64 ever submitted."
@@ -240,11 +234,12 @@ fn valid_entries(b: &[u8], n: u8) -> bool
     requires { recorders_at ≤ length b.now }
     ensures { result ≡ (entries_form n).valid (part entries_at entries_size b.now) }
 {
-    let m = b[layout::ENTRY_COUNT] as usize;
-    if limits::MAX_ENTRIES < m {
-        return false;
-    }
-    valid_entry_cells(b, m, n)
+    let entries = Table {
+        at: layout::ENTRY_COUNT,
+        size: layout::ENTRY,
+        places: limits::MAX_ENTRIES,
+    };
+    entries.valid_counted(b, |cell| valid_entry(b, cell, n))
 }
 
 // The n recorders, and zeros.
@@ -252,14 +247,12 @@ fn valid_recorders(b: &[u8], n: usize) -> bool
     requires { (n ≤ max_recorders) × (network_at ≤ length b.now) }
     ensures { result ≡ (cells recorder_form n max_recorders).valid (part recorders_at recorders_size b.now) }
 {
-    valid_cells(
-        b,
-        layout::RECORDERS,
-        layout::RECORDER,
-        n,
-        limits::MAX_RECORDERS,
-        |cell| valid_recorder(b, cell),
-    )
+    let recorders = Table {
+        at: layout::RECORDERS,
+        size: layout::RECORDER,
+        places: limits::MAX_RECORDERS,
+    };
+    recorders.valid_cells(b, n, |cell| valid_recorder(b, cell))
 }
 
 // A recorder's endpoints in m views, and zeros.
@@ -267,14 +260,12 @@ fn valid_row(b: &[u8], at: usize, m: usize) -> bool
     requires { (m ≤ max_views) × (at + row_size ≤ length b.now) }
     ensures { result ≡ (cells endpoint_form m max_views).valid (part at row_size b.now) }
 {
-    valid_cells(
-        b,
+    let endpoints = Table {
         at,
-        layout::ENDPOINT,
-        m,
-        limits::MAX_VIEWS,
-        |cell| valid_endpoint(b, cell),
-    )
+        size: layout::ENDPOINT,
+        places: limits::MAX_VIEWS,
+    };
+    endpoints.valid_cells(b, m, |cell| valid_endpoint(b, cell))
 }
 
 // The endpoints of n recorders in m views, and zeros.
@@ -283,14 +274,12 @@ fn valid_network(b: &[u8], n: usize, m: usize) -> bool
     ensures { result ≡ (cells (cells endpoint_form m max_views) n max_recorders
         ).valid (part network_at network_size b.now) }
 {
-    valid_cells(
-        b,
-        layout::NETWORK,
-        layout::ROW,
-        n,
-        limits::MAX_RECORDERS,
-        |cell| valid_row(b, cell, m),
-    )
+    let rows = Table {
+        at: layout::NETWORK,
+        size: layout::ROW,
+        places: limits::MAX_RECORDERS,
+    };
+    rows.valid_cells(b, n, |cell| valid_row(b, cell, m))
 }
 
 // The queues of m views, and zeros.
@@ -298,14 +287,12 @@ fn valid_queues(b: &[u8], m: usize) -> bool
     requires { (m ≤ max_views) × (votes_at ≤ length b.now) }
     ensures { result ≡ (cells queue_form m max_views).valid (part queues_at queues_size b.now) }
 {
-    valid_cells(
-        b,
-        layout::QUEUES,
-        layout::QUEUE,
-        m,
-        limits::MAX_VIEWS,
-        |cell| valid_queue(b, cell),
-    )
+    let queues = Table {
+        at: layout::QUEUES,
+        size: layout::QUEUE,
+        places: limits::MAX_VIEWS,
+    };
+    queues.valid_cells(b, m, |cell| valid_queue(b, cell))
 }
 
 // A recorder's votes: "0 to 1,000 each" (02, A4).
@@ -321,14 +308,12 @@ fn valid_votes(b: &[u8], n: usize) -> bool
     requires { (n ≤ max_recorders) × (stored_length ≤ length b.now) }
     ensures { result ≡ (cells vote_form n max_recorders).valid (part votes_at votes_size b.now) }
 {
-    valid_cells(
-        b,
-        layout::VOTES,
-        layout::WORD,
-        n,
-        limits::MAX_RECORDERS,
-        |cell| valid_vote(b, cell),
-    )
+    let votes = Table {
+        at: layout::VOTES,
+        size: layout::WORD,
+        places: limits::MAX_RECORDERS,
+    };
+    votes.valid_cells(b, n, |cell| valid_vote(b, cell))
 }
 
 // A view's number, 1 on, and set, "not empty and within N".
@@ -338,22 +323,6 @@ fn valid_view(b: &[u8], at: usize, n: u8) -> bool
 {
     let g = codec::get_u32(b, at);
     (1 <= g) & valid_byte(b, at + layout::VIEW_SET, 1, all_of(n as u32) as u8)
-}
-
-// The m views of a hall of n recorders, and zeros.
-fn valid_view_cells(b: &[u8], m: usize, n: u8) -> bool
-    requires { (m ≤ max_views) × (1 ≤ n) × (n ≤ max_recorders) × (entries_at ≤ length b.now) }
-    ensures { result ≡ (cells (view_form n) m max_views
-        ).valid (part view_cells (max_views * view_size) b.now) }
-{
-    valid_cells(
-        b,
-        layout::VIEWS,
-        layout::VIEW,
-        m,
-        limits::MAX_VIEWS,
-        |cell| valid_view(b, cell, n),
-    )
 }
 
 // The number of the view at index i.
@@ -393,11 +362,13 @@ fn valid_views(b: &[u8], n: u8) -> bool
     requires { (1 ≤ n) × (n ≤ max_recorders) × (entries_at ≤ length b.now) }
     ensures { result ≡ (views_form n).valid (part views_at views_size b.now) }
 {
-    let m = b[layout::VIEW_COUNT] as usize;
-    if limits::MAX_VIEWS < m {
-        return false;
-    }
-    valid_view_cells(b, m, n) & views_rise(b, m)
+    let views = Table {
+        at: layout::VIEW_COUNT,
+        size: layout::VIEW,
+        places: limits::MAX_VIEWS,
+    };
+    views.valid_counted(b, |cell| valid_view(b, cell, n))
+        && views_rise(b, b[layout::VIEW_COUNT] as usize)
 }
 
 // The entries, recorders, endpoints, queues and votes of n recorders and m views.
