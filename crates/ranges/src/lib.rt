@@ -55,20 +55,16 @@ impl Table {
     fn valid_cells<F: Fn(usize) -> bool>(self, b: &[u8], m: usize, valid: F) -> bool
         requires within { (m ≤ self.places) × (self.at + self.places * self.size ≤ length b.now) }
         requires tested { (i : ℕ) → i < m → F.pre valid (self.at + i * self.size) }
-        ensures { (test : List ℕ → Bool) → Tests (F.post valid) test self.at self.size m b.now
+        ensures { (test : List ℕ → Bool) → Tests (F.post valid) test self.at self.size b.now
             → result ≡ (cells (tested self.size test) m self.places
             ).valid (part self.at (self.places * self.size) b.now) }
     {
-        for i in 0..m {
-            if !valid(self.at + i * self.size) {
-                return false;
-            }
-        }
-        codec::is_zero(
-            b,
-            self.at + m * self.size,
-            self.at + self.places * self.size,
-        )
+        (0..m).all(|i| valid(self.at + i * self.size))
+            && codec::is_zero(
+                b,
+                self.at + m * self.size,
+                self.at + self.places * self.size,
+            )
     }
 
     // Where a table begins with a byte that says how many cells are in use: is it no more than its places, and are
@@ -77,7 +73,7 @@ impl Table {
         requires within { self.at + (1 + self.places * self.size) ≤ length b.now }
         requires tested { (i : ℕ) → i < self.places → F.pre valid (self.at + 1 + i * self.size) }
         ensures count { IsTrue result → get_or b.now self.at 0 ≤ self.places }
-        ensures value { (test : List ℕ → Bool) → Tests (F.post valid) test (self.at + 1) self.size self.places b.now
+        ensures value { (test : List ℕ → Bool) → Tests (F.post valid) test (self.at + 1) self.size b.now
             → result ≡ (bounded (tested self.size test) self.places
             ).valid (part self.at (1 + self.places * self.size) b.now) }
     {

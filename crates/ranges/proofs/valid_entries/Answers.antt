@@ -11,6 +11,6 @@ use Rattle.ranges.proofs.valid_entries.Goals as goal
 pub returns : goal.returns
 returns c =
     let a = c.args in
-    c.valid_counted.ensures.value (entry_form a.n).valid (λ i h r p. search rules)
+    c.valid_counted.ensures.value (entry_form a.n).valid (λ i r p. search rules)
     ∙ bounded-by_test (entry_form a.n) max_entries entries_at a.b.now c.requires
     ∙ sym (entries-bounded a.n a.b.now c.requires)

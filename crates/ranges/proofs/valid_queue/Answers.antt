@@ -10,5 +10,5 @@ pub returns : goal.returns
 unfolding queue_form
 returns c =
     let a = c.args in
-    c.valid_counted.ensures.value queued_form.valid (λ i h r p. search rules)
+    c.valid_counted.ensures.value queued_form.valid (λ i r p. search rules)
     ∙ bounded-by_test queued_form max_queue a.at a.b.now c.requires

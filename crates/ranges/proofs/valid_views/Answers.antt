@@ -16,7 +16,7 @@ returns-then-valid_counted c =
     c.views_rise.ensures
     ∙ sym
     (views-rise a.n a.b.now c.requires.2
-    (sym (c.valid_counted.ensures.value F.valid (λ i h r p. search rules) ∙ e) ∙ c.if-valid_counted.true)
+    (sym (c.valid_counted.ensures.value F.valid (λ i r p. search rules) ∙ e) ∙ c.if-valid_counted.true)
     (c.valid_counted.ensures.count (search rules)))
 
 pub returns-else-valid_counted : goal.returns-else-valid_counted
@@ -27,4 +27,4 @@ returns-else-valid_counted c =
     c.if-valid_counted.false
     ∙ sym
     (views-fail a.n a.b.now c.requires.2
-    (sym (c.valid_counted.ensures.value F.valid (λ i h r p. search rules) ∙ e) ∙ c.if-valid_counted.false))
+    (sym (c.valid_counted.ensures.value F.valid (λ i r p. search rules) ∙ e) ∙ c.if-valid_counted.false))

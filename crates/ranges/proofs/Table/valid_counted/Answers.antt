@@ -1,8 +1,5 @@
 -- By the count. Assumes nothing.
-use Prim.Native.Nat.{ℕ, ◌<◌}
-use native.Mathlib.Omega.{arith}
 use mathlib.Core.Path.{sym, ◌∙◌}
-use lib.ListN.{get_or}
 use borrow.Author.Tests.{lt-leb}
 use Rattle.ranges.specs.Tests.{tested}
 use Rattle.ranges.proofs.Loops.{bounded-within, bounded-over}
@@ -11,11 +8,9 @@ use Rattle.ranges.proofs.Table.valid_counted.Goals as goal
 pub returns-then-m-self-clause-value : goal.returns-then-m-self-clause-value
 returns-then-m-self-clause-value g c =
     let s = c.args.self in
-    let b = c.args.b.now in
-    let less : (i : ℕ) → i < get_or b s.at 0 → i < s.places = λ i l. omega (arith, l, c.if-m-self.true) in
     λ test t.
-    c.valid_cells.ensures test (λ i l r p. t i (less i l) r p)
-    ∙ sym (bounded-within (tested s.size test) s.places s.at b c.requires.within c.if-m-self.true)
+    c.valid_cells.ensures test t
+    ∙ sym (bounded-within (tested s.size test) s.places s.at c.args.b.now c.requires.within c.if-m-self.true)
 
 pub returns-else-m-self-clause-value : goal.returns-else-m-self-clause-value
 returns-else-m-self-clause-value g c =
