@@ -5,4 +5,4 @@ use Rattle.ranges.proofs.CellPartsLaws.{endpoint-part}
 use Rattle.ranges.proofs.valid_endpoint.Goals as goal
 
 pub returns : goal.returns
-returns c = let a = c.args in simp and_assoc (cc (simp add_assoc at (endpoint-part a.at a.b.now c.requires)))
+returns c = simp and_assoc (cc (simp add_assoc at (endpoint-part c.args.at c.args.b.now c.requires)))

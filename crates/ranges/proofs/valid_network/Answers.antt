@@ -8,4 +8,6 @@ use Rattle.ranges.proofs.Loops.{by_test}
 use Rattle.ranges.proofs.valid_network.Goals as goal
 
 pub returns : goal.returns
-returns c = let a = c.args in c.valid_cells.ensures (cells endpoint_form a.m max_views).valid (λ i r p. search rules) ∙ by_test (cells endpoint_form a.m max_views) a.n max_recorders _
+returns c =
+    let row = cells endpoint_form c.args.m max_views in
+    c.valid_cells.ensures row.valid (λ i r p. search rules) ∙ by_test row c.args.n max_recorders _

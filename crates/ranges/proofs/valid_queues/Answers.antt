@@ -7,4 +7,4 @@ use Rattle.ranges.proofs.Loops.{by_test}
 use Rattle.ranges.proofs.valid_queues.Goals as goal
 
 pub returns : goal.returns
-returns c = let a = c.args in c.valid_cells.ensures (queue_form).valid (λ i r p. search rules) ∙ by_test (queue_form) a.m max_views _
+returns c = c.valid_cells.ensures queue_form.valid (λ i r p. search rules) ∙ by_test queue_form c.args.m max_views _

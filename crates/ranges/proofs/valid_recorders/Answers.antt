@@ -7,4 +7,4 @@ use Rattle.ranges.proofs.Loops.{by_test}
 use Rattle.ranges.proofs.valid_recorders.Goals as goal
 
 pub returns : goal.returns
-returns c = let a = c.args in c.valid_cells.ensures (recorder_form).valid (λ i r p. search rules) ∙ by_test (recorder_form) a.n max_recorders _
+returns c = c.valid_cells.ensures recorder_form.valid (λ i r p. search rules) ∙ by_test recorder_form c.args.n max_recorders _

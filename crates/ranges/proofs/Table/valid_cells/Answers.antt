@@ -26,6 +26,6 @@ returns g c =
     let both : Bool → Bool = λ u. u && all_zero (part (s.at + m * s.size) (end - (s.at + m * s.size)) b) in
     let law = cells-list (tested s.size test) s.at m b s.places end c.requires.within.0 refl in
     elim c.if-all.branch [
-      then-all w ↦ w.result-is ∙ w.is_zero.ensures ∙ ap both (sym w.if-all.true ∙ each) ∙ law
+      | then-all w ↦ w.result-is ∙ w.is_zero.ensures ∙ ap both (sym w.if-all.true ∙ each) ∙ law
       | else-all w ↦ w.result-is ∙ w.if-all.false ∙ ap both (sym w.if-all.false ∙ each) ∙ law
     ]
