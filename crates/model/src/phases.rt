@@ -1,7 +1,8 @@
-// The phases of a recorder, each with its byte (specs/Phases).
+// The phases of a recorder, each with its byte (specs/Page).
 
 ghost use Rattle.std.specs.Prelude.{◌≡◌};
-ghost use Rattle.model.specs.Phases.{phase_number};
+ghost use Rattle.model.specs.Page.{phase_number};
+ghost use Rattle.model.specs.Phases.{phase_meaning};
 
 // "phase (normal, send, collect)"
 #[derive(Clone, Copy, PartialEq, Eq)]
@@ -12,8 +13,9 @@ pub enum Phase {
 }
 
 impl From<Phase> for u8 {
-    ghost from_gives = { λ p n. n ≡ phase_number p };
+    ghost from_gives = { λ p n. n ≡ phase_number (phase_meaning p) };
 
+    #[tactic(auto, unfolding(crate::specs::Page::phase_number))]
     fn from(p: Phase) -> u8 {
         p as u8
     }
