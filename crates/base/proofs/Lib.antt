@@ -7,3 +7,4 @@ pub mod Begins
 pub mod ChainsLaws
 pub mod NumbersLaws
 pub mod Integers
+pub mod Arrays

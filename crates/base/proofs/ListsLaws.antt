@@ -1,17 +1,16 @@
 -- Laws of lists: what they have, those of their elements that pass a test, rising lists.
 -- Assumes nothing.
-use Prim.Native.Nat.{ℕ, zero, suc, ◌+◌, ◌<◌, ◌≤◌}
+use Prim.Native.Nat.{ℕ, zero, suc, ◌<◌, ◌≤◌}
 use native.Mathlib.Nat.{not-suc-le-zero, le_of_suc-le-suc}
-use native.Mathlib.Numerals.{add-one}
 use mathlib.Core.Path.{◌≡◌, refl, sym, ap, ◌∙◌, subst}
 use mathlib.Core.Bool.{true, false, true≢false, false≢true, Bool, ◌&&◌, ◌||◌, and-false, and-eq-true_iff}
 use mathlib.Core.List.{List, [], ◌∷◌, ◌++◌}
 use lib.Dec.{eqb, ltb}
-use lib.ListN.{length, get_or, drop}
-use lib.Seq.{drop-cons}
+use lib.ListN.{length, get_or}
 use borrow.Author.Tests.{eqb-true, eq-eqb, ltb-true, lt-ltb}
 use native.Mathlib.Omega.{arith}
 use mathlib.Core.Logic.{⊎_elim, ◌↔◌, ◌⊎◌, inl, inr}
+use Rattle.std.specs.List.{list_all}
 use Rattle.base.specs.Lists.{has, Each, filter, rising, bit, count, all, nth, rest, is_empty}
 use Rattle.base.proofs.Bools.{by_cases, or_cases, and_both, or_left, or_right, and-true}
 
@@ -141,18 +140,11 @@ unfolding all
 get-all p [] f = refl
 get-all p (x ∷ xs) f = and-true (p x) (all p xs) (f 0) (get-all p xs (λ i. f (suc i)))
 
--- a walk over a list: the elements from i on
-pub all_from : (p : ℕ → Bool) (xs : List ℕ) (i : ℕ) → i < length xs → all p (drop i xs) ≡ p (get_or xs i 0) && all p (drop (i + 1) xs)
+-- as an iterator's `all` tells it
+pub list_all-all : (p : ℕ → Bool) (xs : List ℕ) → list_all p xs ≡ all p xs
 unfolding all
-all_from p xs i h = ap (all p) (drop-cons xs i 0 h) ∙ ap (λ (j : ℕ). p (get_or xs i 0) && all p (drop j xs)) (sym (add-one i))
-
--- no element past the end
-pub all_past : (p : ℕ → Bool) (xs : List ℕ) (i : ℕ) → length xs ≤ i → all p (drop i xs) ≡ true
-unfolding all
-all_past p [] zero h = refl
-all_past p [] (suc i) h = refl
-all_past p (x ∷ xs) zero h = absurd (not-suc-le-zero h)
-all_past p (x ∷ xs) (suc i) h = all_past p xs i (le_of_suc-le-suc h)
+list_all-all p [] = refl
+list_all-all p (x ∷ xs) = ap (λ (t : Bool). p x && t) (list_all-all p xs)
 
 pub each-has : (P : ℕ → Type 0) (xs : List ℕ) → Each P xs → (x : ℕ) → has xs x ≡ true → P x
 each-has P [] p x m = absurd (has-none x m)

@@ -1,43 +1,30 @@
 -- Steps one after another on a slice. Assumes nothing.
-use Prim.Native.Nat.{ℕ, ◌+◌, ◌*◌, ◌≤◌, ◌<◌}
-use native.Mathlib.Omega.{arith}
-use native.Mathlib.Numerals.{add-one}
+use Prim.Native.Nat.{ℕ, ◌<◌}
 use mathlib.Core.Path.{◌≡◌, refl, sym, ap, ◌∙◌}
 use mathlib.Core.Bool.{Bool, true, false}
 use mathlib.Core.List.{List, [], ◌∷◌, ◌++◌}
-use lib.ListN.{length, get_or, take}
-use lib.Seq.{take-suc, take_all}
+use lib.ListN.{length}
 use Rattle.model.specs.Answers.{refused}
 use Rattle.model.specs.Kinds.{Kind, KindWord, kind, no_kind, kind_of}
-use Rattle.model.specs.Call.{Words, words_of}
+use Rattle.model.specs.Call.{Words}
 use Rattle.store.specs.StoredForm.{is_stored}
 use Rattle.calls.specs.Calls.{Outcome, step_on, run_on}
 use Rattle.calls.proofs.ByKindLaws.{act_on, step-by-kind}
 use Rattle.calls.specs.ByKind.{give}
 use Rattle.runfile.specs.Answers.{actions_of}
-use Rattle.runfile.proofs.WriteLaws.{length-actions_of, get_d-actions_of}
+use Rattle.runfile.proofs.WriteLaws.{first_four, actions_of-next, actions_of-none}
 
--- one call more
-run-last : (b : List ℕ) (ws : List Words) (w : Words) → run_on b (ws ++ (w ∷ [])) ≡ (step_on (run_on b ws) w).bytes
+-- the next action, and those left after it
+pub run-next : (b c ws x rest : List ℕ) → ws ≡ x ++ rest → length x ≡ 4 → c ≡ (step_on b (first_four x)).bytes
+    → run_on c (actions_of rest) ≡ run_on b (actions_of ws)
 unfolding run_on
-run-last b [] w = refl
-run-last b (v ∷ ws) w = run-last (step_on b v).bytes ws w
+run-next b c ws x rest e h f =
+    ap (λ (z : List ℕ). run_on z (actions_of rest)) f ∙ sym (ap (run_on b) (actions_of-next ws x rest e h))
 
--- action i of a slice, four words each
-pub run-next : (b vs : List ℕ) (i : ℕ) → 4 * i + 4 ≤ length vs → (c d : List ℕ) → c ≡ run_on b (take i (actions_of vs))
-    → d ≡ (step_on c (words_of (get_or vs (4 * i) 0) (get_or vs (4 * i + 1) 0) (get_or vs (4 * i + 2) 0) (get_or vs (4 * i + 3) 0))).bytes
-    → d ≡ run_on b (take (i + 1) (actions_of vs))
-run-next b vs i h c d e f =
-    let w : Words = words_of (get_or vs (4 * i) 0) (get_or vs (4 * i + 1) 0) (get_or vs (4 * i + 2) 0) (get_or vs (4 * i + 3) 0) in
-    let ws : List Words = actions_of vs in
-    let m : i < length ws = omega (arith, length-actions_of vs) in
-    let more : take (i + 1) ws ≡ take i ws ++ (w ∷ []) =
-    ap (λ (n : ℕ). take n ws) (add-one i) ∙ take-suc ws i w m ∙ ap (λ (y : Words). take i ws ++ (y ∷ [])) (get_d-actions_of vs i w m) in
-    f ∙ ap (λ (z : List ℕ). (step_on z w).bytes) e ∙ sym (ap (run_on b) more ∙ run-last b (take i ws) w)
-
--- all of them
-pub run-all : (b vs : List ℕ) (c : ℕ) → length (actions_of vs) ≤ c → run_on b (take c (actions_of vs)) ≡ run_on b (actions_of vs)
-run-all b vs c h = ap (run_on b) (take_all c (actions_of vs) h)
+-- none are left
+pub run-none : (b ws : List ℕ) → length ws < 4 → run_on b (actions_of ws) ≡ b
+unfolding run_on
+run-none b ws h = ap (run_on b) (actions_of-none ws h)
 
 -- on bytes that hold no hall nothing is changed
 step-broken : (b : List ℕ) (w : Words) → is_stored b ≡ false → (step_on b w).bytes ≡ b

@@ -16,7 +16,7 @@ use Rattle.codec.specs.Number.{number, byte, between, digits, value}
 use Rattle.codec.specs.Cells.{encode_all, decode_all, valid_all}
 use Rattle.codec.specs.Bounded.{Within, bounded}
 use Rattle.codec.specs.ByteList.{list_at, list_bytes, all_in}
-use Rattle.codec.proofs.BytesLaws.{part-cons, part-rest, drop-part, sets-append}
+use Rattle.codec.proofs.BytesLaws.{part-cons, drop-part, sets-append}
 use Rattle.codec.proofs.NumberLaws.{digits-byte}
 use Rattle.codec.proofs.BoundedLaws.{bounded-encode, bounded-decode, bounded-valid}
 
@@ -36,18 +36,6 @@ write-list b o cap n xs e = subst (λ (m : ℕ). sets (sets (set b o m) (o + 1) 
         ap (λ (m : ℕ). sets (sets (set b o c) (o + 1) xs) (o + 1 + c) (zeros m)) rest
         ∙ sym (sets-append (set b o c) (o + 1) xs (zeros (cap - c)))
         ∙ ap (λ (j : ℕ). sets (set b o c) j (xs ++ zeros (cap - c))) (add-one o)
-
--- a loop over the bytes from i up to t: it ends, or tests the next byte
-module _ (lo hi i t : ℕ) (b : List ℕ) where
-  pub all_in-none : t ≤ i → all_in lo hi (part i (t - i) b) ≡ true
-  unfolding all_in
-  all_in-none h =
-      let n : t - i ≡ 0 = omega arith in
-      ap (λ (j : ℕ). all_in lo hi (part i j b)) n
-
-  pub all_in-next : i < t → t ≤ length b → all_in lo hi (part i (t - i) b) ≡ between lo hi (get_or b i 0) && all_in lo hi (part (i + 1) (t - (i + 1)) b)
-  unfolding all_in
-  all_in-next h k = ap (all_in lo hi) (part-rest i t b h k)
 
 -- what the code writes, reads and tests is the form of a bounded list of bytes
 module _ (lo hi : ℕ) where

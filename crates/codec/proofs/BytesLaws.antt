@@ -4,11 +4,14 @@ use native.Mathlib.Omega.{arith}
 use native.Mathlib.Nat.{add-zero, add-suc, suc-add}
 use native.Mathlib.Numerals.{add-one, add-two, add-three}
 use mathlib.Core.Path.{◌≡◌, refl, sym, ap, ap₂, ◌∙◌}
-use mathlib.Core.Bool.{Bool, true, ◌&&◌, and-eq-true_iff, and-true, and_assoc, true≢false}
+use mathlib.Core.Bool.{Bool, true, ◌&&◌, and-eq-true_iff, true≢false}
 use mathlib.Core.List.{List, [], ◌∷◌, ◌++◌, append_assoc}
 use lib.Dec.{eqb, lit<}
-use lib.ListN.{length, get_or, take, drop, set, length-append, length-take, length-drop, length-replicate, replicate-append-replicate}
-use lib.Seq.{sets, sets-eq, take_at, drop_at, drop-drop, drop-cons, take-suc, take-suc-set, take-take, take_all, get_or-drop}
+use lib.ListN.{length, get_or, take, drop, set, length-append, length-take, length-drop, length-replicate}
+use lib.Seq.{sets, sets-eq, paste, take_at, drop_at, drop-drop, drop-cons, take-suc, take-suc-set, take-take, take_all, get_or-drop, length-take-le}
+use borrow.Rule.Slice.PartMut.{put_mid}
+use Rattle.std.proofs.lemmas.Slice.{put_mid-paste}
+use Rattle.std.specs.Cmp.Lexicographic.{pointwise}
 use borrow.Author.Tests.{eqb-true, eq-eqb}
 use Rattle.codec.specs.Bytes.{Block, part, zeros, all_zero, same_bytes}
 
@@ -44,16 +47,7 @@ part-take (suc p) m zero l h = absurd (past h)
 part-take (suc p) m (suc n) [] h = refl
 part-take (suc p) m (suc n) (x ∷ xs) h = part-take p m n xs (omega arith)
 
--- the same for a loop from f that has passed i bytes
-pub part_step : (f i : ℕ) (b : List ℕ) → f ≤ i → i < length b → part f (i + 1 - f) b ≡ part f (i - f) b ++ (get_or b i 0 ∷ [])
-part_step f i b h k =
-    let n : i + 1 - f ≡ suc (i - f) = omega arith in
-    let e : f + (i - f) ≡ i = omega arith in
-    ap (λ (j : ℕ). part f j b) n
-    ∙ part-snoc f (i - f) b (omega arith)
-    ∙ ap (λ (j : ℕ). part f (i - f) b ++ (get_or b j 0 ∷ [])) e
-
--- and for one with the bytes from i up to t left
+-- the same for the bytes from i up to t
 pub part-rest : (i t : ℕ) (b : List ℕ) → i < t → t ≤ length b → part i (t - i) b ≡ get_or b i 0 ∷ part (i + 1) (t - (i + 1)) b
 part-rest i t b h k =
     let n : t - i ≡ suc (t - (i + 1)) = omega arith in
@@ -68,16 +62,6 @@ drop-part o n p b h =
     let l : length (drop p (part o n b)) ≤ n - p = simp (length-drop, length-take) (omega arith) in
     sym (take_all (n - p) (drop p (part o n b)) l) ∙ part-part o n p (n - p) b (omega arith)
 
-pub all_zero-snoc : (b : List ℕ) (x : ℕ) → all_zero (b ++ (x ∷ [])) ≡ all_zero b && eqb x 0
-unfolding all_zero
-all_zero-snoc [] x = and-true (eqb x 0)
-all_zero-snoc (y ∷ ys) x = ap (λ (t : Bool). eqb y 0 && t) (all_zero-snoc ys x) ∙ sym (and_assoc (eqb y 0) (all_zero ys) (eqb x 0))
-
--- a test of x joined to one of the bytes passed
-pub all_zero-step : (f i : ℕ) (b : List ℕ) → f ≤ i → i < length b
-    → all_zero (part f (i + 1 - f) b) ≡ all_zero (part f (i - f) b) && eqb (get_or b i 0) 0
-all_zero-step f i b h k = ap all_zero (part_step f i b h k) ∙ all_zero-snoc (part f (i - f) b) (get_or b i 0)
-
 -- a run of stores, and then another
 pub sets-append : (l : List ℕ) (o : ℕ) (xs ys : List ℕ) → sets l o (xs ++ ys) ≡ sets (sets l o xs) (o + length xs) ys
 sets-append l o [] ys = rw add-zero
@@ -90,34 +74,26 @@ pub sets-four : (l : List ℕ) (o w x y z : ℕ)
     → set (set (set (set l o w) (o + 1) x) (o + 2) y) (o + 3) z ≡ sets l o (w ∷ x ∷ y ∷ z ∷ [])
 sets-four l o w x y z = rw (add-one, add-two, add-three)
 
--- loops: one byte more cleared, copied into b, copied out of b
-pub clear_step : (l : List ℕ) (f i : ℕ) (b : List ℕ) → f ≤ i → b ≡ sets l f (zeros (i - f)) → set b i 0 ≡ sets l f (zeros (i + 1 - f))
-clear_step l f i b h e =
-    ap (λ (z : List ℕ). set z i 0) e
-    ∙ sets-snoc l f i (zeros (i - f)) 0 next
-    ∙ ap (sets l f) (replicate-append-replicate (i - f) 1 0 ∙ ap zeros more)
-  where
-    next : f + length (zeros (i - f)) ≡ i
-    next = simp length-replicate (omega arith)
+-- the first n bytes of s put in at o
+pub paste-sets : (b : List ℕ) (o : ℕ) (s : List ℕ) (n : ℕ) → o + n ≤ length b → n ≤ length s → paste b o s n ≡ sets b o (take n s)
+paste-sets b o s n room h =
+    let e : length (take n s) ≡ n = length-take-le n s h in
+    sym (sets-eq (take n s) b o (omega arith) ∙ ap (λ (m : ℕ). take o b ++ take n s ++ drop (o + m) b) e)
 
-    more : i - f + 1 ≡ i + 1 - f
-    more = omega arith
+-- what is written to the slice from o up to e
+pub part-written : (b : List ℕ) (o e : ℕ) (ys zs : List ℕ) → ys ≡ zs → length zs ≡ e - o → o ≤ e → e ≤ length b → put_mid o (e - o) b ys ≡ sets b o zs
+part-written b o e ys zs q l low room =
+    put_mid-paste o (e - o) b ys zs (e - o) q refl (sym l)
+    ∙ paste-sets b o zs (e - o) (omega arith) (omega arith)
+    ∙ ap (sets b o) (take_all (e - o) zs (omega arith))
 
+-- a loop that has copied the first i bytes of s
 pub put_step : (l : List ℕ) (f i : ℕ) (s b : List ℕ) → i < length s → b ≡ sets l f (take i s) → set b (f + i) (get_or s i 0) ≡ sets l f (take (i + 1) s)
 put_step l f i s b h e =
     let n : f + length (take i s) ≡ f + i = simp length-take (omega arith) in
     ap (λ (z : List ℕ). set z (f + i) (get_or s i 0)) e
     ∙ sets-snoc l f (f + i) (take i s) (get_or s i 0) n
     ∙ ap (sets l f) (sym (ap (λ (j : ℕ). take j s) (add-one i) ∙ take-suc s i 0 h))
-
--- a loop that has copied i bytes of s from an offset
-pub copy_step : (l : List ℕ) (f o i : ℕ) (s b : List ℕ) → o + i < length s → b ≡ sets l f (part o i s)
-    → set b (f + i) (get_or s (o + i) 0) ≡ sets l f (part o (i + 1) s)
-copy_step l f o i s b h e =
-    let long : length (part o i s) ≡ i = length-take i (drop o s) ∙ simp length-drop (omega arith) in
-    ap (λ (z : List ℕ). set z (f + i) (get_or s (o + i) 0)) e
-    ∙ sets-snoc l f (f + i) (part o i s) (get_or s (o + i) 0) (omega arith)
-    ∙ ap (sets l f) (sym (part-snoc o i s h)) ∙ ap (λ (n : ℕ). sets l f (part o n s)) (sym (add-one i))
 
 pub get-step : (p : List ℕ) (f i : ℕ) (b : List ℕ) → i < length p → f + i < length b → take i p ≡ part f i b
     → take (i + 1) (set p i (get_or b (f + i) 0)) ≡ part f (i + 1) b
@@ -199,19 +175,10 @@ same-eq (x ∷ xs) (y ∷ ys) h =
     let p = (and-eq-true_iff (eqb x y) (same_bytes xs ys)).0 h in
     ap₂ ◌∷◌ (eqb-true x y p.0) (same-eq xs ys p.1)
 
-pub same-snoc : (a b : List ℕ) (x y : ℕ) → length a ≡ length b → same_bytes (a ++ (x ∷ [])) (b ++ (y ∷ [])) ≡ same_bytes a b && eqb x y
+-- as `==` on slices tells it
+pub same-pointwise : (a b : List ℕ) → pointwise eqb a b ≡ same_bytes a b
 unfolding same_bytes
-same-snoc [] [] x y e = and-true (eqb x y)
-same-snoc [] (v ∷ vs) x y e = absurd (omega arith)
-same-snoc (u ∷ us) [] x y e = absurd (omega arith)
-same-snoc (u ∷ us) (v ∷ vs) x y e = ap (λ (t : Bool). eqb u v && t) (same-snoc us vs x y (omega arith)) ∙ sym (and_assoc (eqb u v) (same_bytes us vs) (eqb x y))
-
--- the same for a loop that has passed i bytes
-pub same_step : (a b : List ℕ) (i : ℕ) → i < length a → i < length b
-    → same_bytes (take (i + 1) a) (take (i + 1) b) ≡ same_bytes (take i a) (take i b) && eqb (get_or a i 0) (get_or b i 0)
-same_step a b i h k =
-    let la : length (take i a) ≡ i = length-take i a ∙ omega arith in
-    let lb : length (take i b) ≡ i = length-take i b ∙ omega arith in
-    ap (λ (n : ℕ). same_bytes (take n a) (take n b)) (add-one i)
-    ∙ ap₂ same_bytes (take-suc a i 0 h) (take-suc b i 0 k)
-    ∙ same-snoc (take i a) (take i b) (get_or a i 0) (get_or b i 0) (omega arith)
+same-pointwise [] [] = refl
+same-pointwise [] (y ∷ ys) = refl
+same-pointwise (x ∷ xs) [] = refl
+same-pointwise (x ∷ xs) (y ∷ ys) = ap (λ (t : Bool). eqb x y && t) (same-pointwise xs ys)

@@ -12,7 +12,6 @@ use lib.ListN.{length, get_or, set, drop, length-drop, length-set}
 use lib.Seq.{sets, length-sets, get_or-set_same, get_or-set_other, get_or-take, get_or-drop, ext_get_or, length-take-le}
 use Rattle.codec.specs.Bytes.{part}
 use Rattle.codec.specs.Covers.{Outside, Covers}
-use Rattle.codec.proofs.BytesLaws.{copy_step}
 
 -- what is written elsewhere leaves place j
 pub sets-outside : (vs l : List ℕ) (i j : ℕ) → Outside i (length vs) j → get_or (sets l i vs) j 0 ≡ get_or l j 0
@@ -42,14 +41,6 @@ sets-inside (a ∷ vs) l i j low high room =
 
 pub part_length : (o n : ℕ) (b : List ℕ) → o + n ≤ length b → length (part o n b) ≡ n
 part_length o n b h = length-take-le n (drop o b) (rw length-drop (omega arith))
-
--- a loop that has moved i bytes down from an offset: the next one is as it was
-pub move_step : (l : List ℕ) (f o i : ℕ) (b : List ℕ) → f ≤ o → o + i < length l → b ≡ sets l f (part o i l)
-    → set b (f + i) (get_or b (o + i) 0) ≡ sets l f (part o (i + 1) l)
-move_step l f o i b h k e =
-    let there = part_length o i l (omega arith) in
-    ap (λ (x : ℕ). set b (f + i) x) (ap (λ (z : List ℕ). get_or z (o + i) 0) e ∙ sets-outside (part o i l) l f (o + i) (inr (omega arith)))
-    ∙ copy_step l f o i l b k e
 
 -- b's own part written into c: b's inside, c's outside
 part_in : (b c : List ℕ) (o n j : ℕ) → o + n ≤ length b → length c ≡ length b → o ≤ j → j < o + n → get_or (sets c o (part o n b)) j 0 ≡ get_or b j 0

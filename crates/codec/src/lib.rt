@@ -54,19 +54,12 @@ pub fn put_byte(b: &mut [u8], at: usize, v: u8)
     b[at] = v;
 }
 
-// A byte as a word.
-fn wide(x: u8) -> u32
-    ensures { (result ≡ x) × (x < 256) }
-{
-    x as u32
-}
-
 // The 32-bit word at an offset, little-endian.
 pub fn get_u32(b: &[u8], at: usize) -> u32
     requires { at + 4 ≤ length b.now }
     ensures { result ≡ value (part at 4 b.now) }
 {
-    wide(b[at]) + 256 * (wide(b[at + 1]) + 256 * (wide(b[at + 2]) + 256 * wide(b[at + 3])))
+    u32::from_le_bytes([b[at], b[at + 1], b[at + 2], b[at + 3]])
 }
 
 // Writes the 32-bit word at an offset, little-endian.
@@ -74,13 +67,7 @@ pub fn put_u32(b: &mut [u8], at: usize, v: u32)
     requires { at + 4 ≤ length b.old }
     ensures { b.new ≡ sets b.old at (digits 4 v) }
 {
-    let w1 = v / 256;
-    let w2 = w1 / 256;
-    let w3 = w2 / 256;
-    b[at] = (v % 256) as u8;
-    b[at + 1] = (w1 % 256) as u8;
-    b[at + 2] = (w2 % 256) as u8;
-    b[at + 3] = (w3 % 256) as u8;
+    b[at..at + 4].copy_from_slice(&v.to_le_bytes());
 }
 
 // Are the bytes from an offset up to another all 0?
@@ -88,13 +75,7 @@ pub fn is_zero(b: &[u8], from: usize, to: usize) -> bool
     requires { (from ≤ to) × (to ≤ length b.now) }
     ensures { result ≡ all_zero (part from (to - from) b.now) }
 {
-    let mut any: u8 = 0;
-    let mut i = from;
-    while i < to {
-        any = any | b[i];
-        i += 1;
-    }
-    any == 0
+    b[from..to].iter().fold(0, |any, x| any | *x) == 0
 }
 
 // Writes 0 to the bytes from an offset up to another.
@@ -102,11 +83,7 @@ pub fn clear(b: &mut [u8], from: usize, to: usize)
     requires { (from ≤ to) × (to ≤ length b.old) }
     ensures { b.new ≡ sets b.old from (zeros (to - from)) }
 {
-    let mut i = from;
-    while i < to {
-        b[i] = 0;
-        i += 1;
-    }
+    b[from..to].fill(0);
 }
 
 // Writes n bytes of s, from an offset of it on, at an offset.
@@ -114,11 +91,7 @@ pub fn copy_bytes(b: &mut [u8], at: usize, s: &[u8], from: usize, n: usize)
     requires { (from + n ≤ length s.now) × (at + n ≤ length b.old) }
     ensures { b.new ≡ sets b.old at (part from n s.now) }
 {
-    let mut i = 0;
-    while i < n {
-        b[at + i] = s[from + i];
-        i += 1;
-    }
+    b[at..at + n].copy_from_slice(&s[from..from + n]);
 }
 
 // Writes the first n bytes of s at an offset.
@@ -126,7 +99,7 @@ pub fn put_bytes(b: &mut [u8], at: usize, s: &[u8], n: usize)
     requires { (n ≤ length s.now) × (at + n ≤ length b.old) }
     ensures { b.new ≡ sets b.old at (take n s.now) }
 {
-    copy_bytes(b, at, s, 0, n);
+    b[at..at + n].copy_from_slice(&s[..n]);
 }
 
 // Moves n bytes down, from an offset to another.
@@ -134,11 +107,7 @@ pub fn move_down(b: &mut [u8], to: usize, from: usize, n: usize)
     requires { (to ≤ from) × (from + n ≤ length b.old) }
     ensures { b.new ≡ sets b.old to (part from n b.old) }
 {
-    let mut i = 0;
-    while i < n {
-        b[to + i] = b[from + i];
-        i += 1;
-    }
+    b.copy_within(from..from + n, to);
 }
 
 // Are the first n bytes of two slices the same?
@@ -146,23 +115,7 @@ pub fn same(a: &[u8], b: &[u8], n: usize) -> bool
     requires { (n ≤ length a.now) × (n ≤ length b.now) }
     ensures { result ≡ same_bytes (take n a.now) (take n b.now) }
 {
-    let mut all = true;
-    let mut i = 0;
-    while i < n {
-        all = all & (a[i] == b[i]);
-        i += 1;
-    }
-    all
-}
-
-// 0 for a byte in lo .. hi, else 1.
-fn outside(x: u8, lo: u8, hi: u8) -> u8
-    ensures { eqb result 0 ≡ between lo hi x }
-{
-    if x < lo {
-        return 1;
-    }
-    if hi < x { 1 } else { 0 }
+    a[..n] == b[..n]
 }
 
 // Are the bytes from an offset up to another all in lo .. hi?
@@ -170,13 +123,9 @@ pub fn all_in(b: &[u8], from: usize, to: usize, lo: u8, hi: u8) -> bool
     requires { (from ≤ to) × (to ≤ length b.now) }
     ensures { result ≡ all_in lo hi (part from (to - from) b.now) }
 {
-    let mut any: u8 = 0;
-    let mut i = from;
-    while i < to {
-        any = any | outside(b[i], lo, hi);
-        i += 1;
-    }
-    any == 0
+    b[from..to]
+        .iter()
+        .fold(true, |all, x| all & (lo <= *x) & (*x <= hi))
 }
 
 // A list of at most 72 bytes: the first `len` of `places`. Where it is stored it has a capacity of its own,
@@ -200,11 +149,7 @@ pub fn get_list(b: &[u8], at: usize) -> ByteList
     let n = b[at] as usize;
     let from = at + 1;
     let mut places = [0u8; ByteList::CAPACITY];
-    let mut i = 0;
-    while i < n {
-        places[i] = b[from + i];
-        i += 1;
-    }
+    places[..n].copy_from_slice(&b[from..from + n]);
     ByteList { places, len: n }
 }
 
@@ -271,15 +216,12 @@ pub fn pop(l: ByteList) -> ByteList
     requires { (0 < l.len) × (l.len ≤ list_capacity) }
     ensures { (result.len ≡ l.len - 1) × (items result ≡ drop 1 (items l)) }
 {
-    let n = l.len - 1;
-    let old = l.places;
     let mut places = l.places;
-    let mut i = 0;
-    while i < n {
-        places[i] = old[i + 1];
-        i += 1;
+    places.copy_within(1..l.len, 0);
+    ByteList {
+        places,
+        len: l.len - 1,
     }
-    ByteList { places, len: n }
 }
 
 // A list with one byte more, at the end.
@@ -315,11 +257,5 @@ pub fn count_flags(row: &[u8], n: usize) -> usize
     ensures value { result ≡ count_of (set_of row.now) (up_to n) }
     ensures small { result ≤ n }
 {
-    let mut sum = 0;
-    let mut i = 0;
-    while i < n {
-        i += 1;
-        sum += has_flag(row, i) as usize;
-    }
-    sum
+    row[..n].iter().filter(|x| **x == 1).count()
 }

@@ -36,13 +36,13 @@ put_next l i vs b c h e f =
     ∙ sym (ap (sets l 0) more ∙ sets-append l 0 (words_bytes (take i vs)) (digits 4 v))
 
 -- all words, and the zeros
-pub put_rest : (l : List ℕ) (i : ℕ) (vs b c : List ℕ) → length vs ≤ i → i ≤ length vs → b ≡ sets l 0 (words_bytes (take i vs))
-    → c ≡ sets b (i * 4) (zeros (answer_length - i * 4)) → c ≡ with_answer l vs
+pub put_rest : (l vs b c : List ℕ) (i : ℕ) → length vs ≤ i → b ≡ sets l 0 (words_bytes (take i vs))
+    → c ≡ sets b (length vs * 4) (zeros (answer_length - length vs * 4)) → c ≡ with_answer l vs
 unfolding with_answer answer_bytes
-put_rest l i vs b c h k e f =
-    let n : i * 4 ≡ 0 + length (words_bytes vs) = omega (arith, length-words vs) in
-    let m : answer_length - i * 4 ≡ answer_length - 4 * length vs = omega arith in
+put_rest l vs b c i h e f =
+    let n : length vs * 4 ≡ 0 + length (words_bytes vs) = omega (arith, length-words vs) in
+    let m : answer_length - length vs * 4 ≡ answer_length - 4 * length vs = omega arith in
     f
-    ∙ ap₂ (λ (z : List ℕ) (j : ℕ). sets z j (zeros (answer_length - i * 4))) (e ∙ ap (λ (z : List ℕ). sets l 0 (words_bytes z)) (take_all i vs h)) n
+    ∙ ap₂ (λ (z : List ℕ) (j : ℕ). sets z j (zeros (answer_length - length vs * 4))) (e ∙ ap (λ (z : List ℕ). sets l 0 (words_bytes z)) (take_all i vs h)) n
     ∙ ap (λ (j : ℕ). sets (sets l 0 (words_bytes vs)) (0 + length (words_bytes vs)) (zeros j)) m
     ∙ sym (sets-append l 0 (words_bytes vs) (zeros (answer_length - 4 * length vs)))

@@ -17,13 +17,10 @@ pub fn put_values(out: &mut [u8], values: &[u32])
     requires { (length values.now * 4 ≤ answer_length) × (answer_length ≤ length out.old) }
     ensures { out.new ≡ with_answer out.old values.now }
 {
-    let n = values.len();
-    let mut i = 0;
-    while i < n {
-        put_u32(out, i * 4, values[i]);
-        i += 1;
+    for (i, v) in values.iter().enumerate() {
+        put_u32(out, i * 4, *v);
     }
-    clear(out, i * 4, ANSWER);
+    clear(out, values.len() * 4, ANSWER);
 }
 
 // The values of a call that is taken and leaves all else as it was, or 18: "18 is last".

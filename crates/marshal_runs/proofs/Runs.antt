@@ -12,7 +12,7 @@ use Rattle.base.proofs.Bools.{by_cases}
 use Rattle.base.proofs.ChainsLaws.{chain-assoc}
 use Rattle.model.specs.RunFile.{FileOpening, RunText, distance, read_text, Reading, read_refusal, read_file, ReadAnswer, read_answer}
 use Rattle.model.specs.RunFile.{WriteAnswer, Writing, write_refusal, write_file, plain_written}
-use Rattle.runfile.specs.declared.Written.{Written}
+use Rattle.std.specs.Prelude.{Result}
 use Rattle.runfile.specs.Answers.{written_meaning}
 use Rattle.runfile.proofs.Cases.{written_one}
 use Rattle.runfile.proofs.Openings.{fits, least}
@@ -36,7 +36,7 @@ read_number f why = go (eqb (read_refusal f) 0) refl
 -- ## Writing
 
 -- the model's answer y has the number and values of r, which is the case s
-pub written_is : {r s : Written} {y : WriteAnswer} → plain_written (written_meaning r) ≡ plain_written y → r ≡ s → y ≡ written_meaning s
+pub written_is : {r s : Result ℕ ℕ} {y : WriteAnswer} → plain_written (written_meaning r) ≡ plain_written y → r ≡ s → y ≡ written_meaning s
 written_is {r} {y} e f = sym (written_one (written_meaning r) y e) ∙ ap written_meaning f
 
 module _ (x : RunText) (b : List ℕ) where

@@ -11,8 +11,8 @@ ghost use Rattle.calls.specs.Lent.{Leaves};
 ghost use Rattle.calls.specs.RunsLent.{run_read_lent, run_action_lent, run_write_lent, written_words};
 
 use lent::{ANSWER, answer_into, high, low, put_values};
-use model::refusal_numbers;
-use runfile::{FileOpening, Next, OpenRead, Written};
+use model::refusals;
+use runfile::FileOpening;
 
 // The opening of a run file, written into a lent slice: N, the founders, the offset of the first action, how many actions
 // there are, the third word and the eight vote words.
@@ -20,10 +20,9 @@ pub fn run_read_into(file: &[u8], out: &mut [u8]) -> u32
     ensures { Leaves (run_read_lent file.now out.old)
         result file.now out.new }
 {
-    let read = runfile::read_opening(file);
-    match read {
-        OpenRead::Refused(why) => why,
-        OpenRead::Opened(o) => {
+    match runfile::read_opening(file) {
+        Err(why) => why,
+        Ok(o) => {
             let x = o.opening;
             let v = x.words;
             let values = [
@@ -52,16 +51,12 @@ pub fn run_action_into(file: &[u8], at: usize, out: &mut [u8]) -> u32
     ensures { Leaves (run_action_lent file.now at out.old)
         result file.now out.new }
 {
-    let next = runfile::read_next(file, at);
-    match next {
-        Next::Act(x, after) => {
+    match runfile::read_next(file, at) {
+        Some((x, after)) => {
             let values = [0, x.k, x.r, x.a, x.b, low(after), high(after)];
             answer_into(out, &values)
         }
-        Next::End => {
-            let values = [1];
-            answer_into(out, &values)
-        }
+        None => answer_into(out, &[1]),
     }
 }
 
@@ -71,10 +66,9 @@ fn try_write(o: FileOpening, actions: &[u32]) -> u32
         → result ≡ (written_words (write_file (run_of (file_opening o) actions.now) file).answer).number ⨾ 18 }
 {
     let mut none = [0u8; 1];
-    let tried = runfile::write(&mut none, o, actions);
-    match tried {
-        Written::Refused(why) => why,
-        Written::Bytes(_) => refusal_numbers::SHORT,
+    match runfile::write(&mut none, o, actions) {
+        Ok(_) => refusals::SHORT,
+        Err(early) => early,
     }
 }
 
@@ -87,12 +81,10 @@ pub fn run_write_into(file: &mut [u8], o: FileOpening, actions: &[u32], out: &mu
     if out.len() < ANSWER {
         return try_write(o, actions);
     }
-    let written = runfile::write(file, o, actions);
-    match written {
-        Written::Refused(number) => number,
-        Written::Bytes(length) => {
-            let values = [length as u32];
-            put_values(out, &values);
+    match runfile::write(file, o, actions) {
+        Err(number) => number,
+        Ok(length) => {
+            put_values(out, &[length as u32]);
             0
         }
     }

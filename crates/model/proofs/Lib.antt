@@ -12,3 +12,4 @@ pub mod Computing
 pub mod Cards
 pub mod EndCounts
 pub mod RefusalNumbersLaws
+pub mod KindNumbersLaws

@@ -2,7 +2,7 @@
 use Rattle.std.proofs.Common.{◌≡◌, ℕ, Result, Ok, Err, ◌≢◌, arith}
 use mathlib.Core.Path.{refl, sym, ap, ◌∙◌}
 use borrow.Author.Tests.{ne_eqb}
-use Rattle.std.specs.Result.{IsErrAnd}
+use Rattle.std.specs.Result.{IsErrAnd, result_and}
 use Rattle.std.proofs.lemmas.Result.{err_from_is_err_and}
 use Rattle.base.specs.Chains.{◌⨾◌}
 use Rattle.model.specs.declared.refusals.Refusal.{Refusal}
@@ -53,3 +53,9 @@ goes-on {b = b} e f = f ∙ ap (λ z. z ⨾ b) e
 -- the exit of a `?` on the first call of a chain
 pub stops : {T : Type 0} (r : Result T Refusal) (why : Refusal) {a : ℕ} (b : ℕ) → IsErrAnd r (λ y. y ≡ why) → number why ≡ a → refused_by r ≡ a ⨾ b
 stops r why b x e = exit r why x ∙ ends why b e
+
+-- two calls in turn
+pub and-chain : {S T : Type 0} (x : Result S Refusal) (y : Result T Refusal) → refused_by (result_and x y) ≡ refused_by x ⨾ refused_by y
+unfolding ◌⨾◌
+and-chain (Ok x) y = refl
+and-chain (Err why) y = ends why _ refl

@@ -2,7 +2,7 @@
 // state"; specs/RefusalNumbers).
 
 ghost use Rattle.std.specs.Prelude.{◌≡◌};
-ghost use Rattle.model.specs.RefusalNumbers.{number};
+ghost use Rattle.model.specs.RefusalNumbers.{number, refused_by};
 
 // A condition under which a call is refused.
 #[derive(Clone, Copy, PartialEq, Eq)]
@@ -57,5 +57,15 @@ impl From<Refusal> for u32 {
 
     fn from(why: Refusal) -> u32 {
         why as u32
+    }
+}
+
+// A call's number: 0, or its refusal's.
+pub fn number_of<T: Drop>(x: Result<T, Refusal>) -> u32
+    ensures { result ≡ refused_by x }
+{
+    match x {
+        Ok(_) => 0,
+        Err(why) => u32::from(why),
     }
 }

@@ -6,6 +6,7 @@ ghost use Rattle.std.specs.Prelude.{◌≡◌, List, ◌++◌, ℕ, ◌+◌, ◌
 ghost use Rattle.std.proofs.lemmas.List.Edits.{sets};
 ghost use Rattle.model.specs.Opening.{opening_of, founder_mask};
 ghost use Rattle.model.specs.Hall.{max_recorders};
+ghost use Rattle.model.specs.RefusalNumbers.{refused_by};
 ghost use Rattle.store.specs.Layout.{stored_length, recorders_at, recorder_size, votes_at};
 ghost use Rattle.store.specs.CellForms.{recorder_form};
 ghost use Rattle.store.specs.StoredForm.{stored};
@@ -14,11 +15,11 @@ ghost use Rattle.opening.specs.Opened.{Taken, begun, start_of, vote_bytes};
 
 use codec::{clear, put_byte, put_u32};
 use model::limits::MAX_RECORDERS;
-use model::refusal_numbers;
+use model::refusals::Refusal;
 use pieces::{Recorder, put_recorder};
 use quorum::in_mask;
 use store::layout;
-use words::{first, opening_refusal, refusal};
+use words::{opening_refusal, refuse};
 
 // "A founders word of 0 shall mean recorder 1 only."
 fn founder_mask(founders: u32) -> u32
@@ -32,10 +33,8 @@ fn put_votes(b: &mut [u8], votes: [u32; 8])
     requires { stored_length ≤ length b.old }
     ensures { b.new ≡ sets b.old votes_at (vote_bytes votes) }
 {
-    let mut i = 0;
-    while i < MAX_RECORDERS {
+    for i in 0..MAX_RECORDERS {
         put_u32(b, layout::VOTES + i * layout::WORD, votes[i]);
-        i += 1;
     }
 }
 
@@ -73,26 +72,20 @@ fn start_all(b: &mut [u8], n: u32, set: u32)
     ensures { (row rest : List ℕ) → Taken n row set b.old → b.old ≡ stored (begun n row set 0) ++ rest
         → b.new ≡ stored (begun n row set n) ++ rest }
 {
-    let mut k: u32 = 0;
-    while k < n {
+    for k in 0..n {
         start(b, set, k);
-        k += 1;
     }
 }
 
-// Opens a hall of n recorders with the founders of a word and a row of votes. Answers 0, or the number of the refusal.
-pub fn open(b: &mut [u8], n: u32, founders: u32, votes: [u32; 8]) -> u32
-    ensures number { result ≡ (open_on b.old (opening_of n founders votes)).number }
+// Opens a hall of n recorders with the founders of a word and a row of votes.
+pub fn open(b: &mut [u8], n: u32, founders: u32, votes: [u32; 8]) -> Result<(), Refusal>
+    ensures number { refused_by result ≡ (open_on b.old (opening_of n founders votes)).number }
     ensures bytes { b.new ≡ (open_on b.old (opening_of n founders votes)).bytes }
 {
-    let wrong = opening_refusal(n, founders, votes);
-    let short = refusal(b.len() < layout::LENGTH, refusal_numbers::SHORT);
-    let why = first(wrong, short);
-    if why != 0 {
-        return why;
-    }
+    let short = refuse(b.len() < layout::LENGTH, Refusal::Short);
+    opening_refusal(n, founders, votes).and(short)?;
     let set = founder_mask(founders);
     begin(b, n, set, votes);
     start_all(b, n, set);
-    0
+    Ok(())
 }

@@ -50,15 +50,13 @@ pub fn margin(row: &[u32; 8], n: u32, set: u32) -> i32
     requires { (n ≤ 8) × ((k : ℕ) → row_of row.now k ≤ max_vote) }
     ensures { result ≡ margin (row_of row.now) n (in_mask set) }
 {
-    let mut of_set: u32 = 0;
-    let mut of_hall: u32 = 0;
-    let mut k: u32 = 8;
-    while 0 < k {
+    let mut of_set = 0;
+    let mut of_hall = 0;
+    for k in (1..=8).rev() {
         let v = vote(row, n, k);
         let s = share(in_mask(set, k), v);
         of_set += s;
         of_hall += v;
-        k -= 1;
     }
     (2 * of_set) as i32 - of_hall as i32
 }
@@ -77,53 +75,26 @@ fn built_in(n: u32, k: u32) -> u32
 pub fn built_in_row(n: u32) -> [u32; 8]
     ensures { result ≡ built_in_row n }
 {
-    [
-        built_in(n, 1),
-        built_in(n, 2),
-        built_in(n, 3),
-        built_in(n, 4),
-        built_in(n, 5),
-        built_in(n, 6),
-        built_in(n, 7),
-        built_in(n, 8),
-    ]
+    [1, 2, 3, 4, 5, 6, 7, 8].map(|k| built_in(n, k))
 }
 
 // Is each vote of a row at most 1,000?
-fn is_small(row: [u32; 8]) -> bool
-    ensures { result ≡ small_row row }
+fn is_small(row: &[u32; 8]) -> bool
+    ensures { result ≡ small_row row.now }
 {
-    let mut i = 0;
-    while i < 8 {
-        if MAX_VOTE < row[i] {
-            return false;
-        }
-        i += 1;
-    }
-    true
+    row.iter().all(|v| *v <= MAX_VOTE)
 }
 
 // Is each vote past the first n recorders' 0?
-fn none_above(row: [u32; 8], n: usize) -> bool
-    ensures { result ≡ no_votes (drop n row) }
+fn none_above(row: &[u32; 8], n: usize) -> bool
+    ensures { result ≡ no_votes (drop n row.now) }
 {
-    let mut i = n;
-    while i < 8 {
-        if row[i] != 0 {
-            return false;
-        }
-        i += 1;
-    }
-    true
+    row.iter().skip(n).all(|v| *v == 0)
 }
 
 // 41: "a vote above 1,000, a vote other than 0 for a recorder above N, or a row whose votes are all 0" (02, A4).
 pub fn wrong_row(n: u32, row: [u32; 8]) -> bool
     ensures { result ≡ wrong_row n row }
 {
-    if is_small(row) & none_above(row, n as usize) {
-        none_above(row, 0)
-    } else {
-        true
-    }
+    !(is_small(&row) & none_above(&row, n as usize)) | none_above(&row, 0)
 }

@@ -92,6 +92,18 @@ recorder-part o b =
     (pair-part (flags max_entries) _ (o + number_size + 1 + 1 + list_size max_buffer + list_size max_order + 1 + 1 + number_size + max_entries) b
     (pair-part (flags max_recorders) (flags max_recorders) (o + number_size + 1 + 1 + list_size max_buffer + list_size max_order + 1 + 1 + number_size + max_entries + max_entries) b refl))))))))))
 
+-- what follows its order
+pub rest-part : (o : ℕ) (b : List ℕ) → recorder_rest o b
+    ≡ (mark (max_order + 1)).valid (part o 1 b)
+    && ((mark (max_order + 1)).valid (part (o + 1) 1 b)
+    && (view_number.valid (part (o + 1 + 1) number_size b)
+    && ((flags max_entries).valid (part (o + 1 + 1 + number_size) max_entries b)
+    && ((flags max_entries).valid (part (o + 1 + 1 + number_size + max_entries) max_entries b)
+    && ((flags max_recorders).valid (part (o + 1 + 1 + number_size + max_entries + max_entries) max_recorders b)
+    && (flags max_recorders).valid (part (o + 1 + 1 + number_size + max_entries + max_entries + max_recorders) max_recorders b))))))
+unfolding recorder_rest
+rest-part o b = refl
+
 -- a list of messages is tested as one of bytes
 messages-part : (cap o : ℕ) (b : List ℕ) → o + (1 + cap * 1) ≤ length b
     → (bounded message_form cap).valid (part o (1 + cap * 1) b) ≡ (bounded (byte 0 max_entries) cap).valid (part o (1 + cap * 1) b)

@@ -10,13 +10,25 @@ use lib.Dec.{leb}
 use lib.ListN.{length, get_or, take, drop}
 use lib.Seq.{take-take, drop-drop}
 use borrow.Author.Tests.{le-leb, lt-leb}
+use Rattle.std.specs.List.{list_all, range_with_len}
 use Rattle.codec.specs.Bytes.{part, all_zero}
 use Rattle.codec.proofs.BytesLaws.{part-cons, drop-part}
 use Rattle.codec.specs.Form.{Form}
 use Rattle.codec.proofs.CellsLaws.{suc-cells, valid_all-rest}
 use Rattle.codec.specs.Cells.{valid_all, decode_all, cells}
 use Rattle.codec.specs.Bounded.{bounded}
+use Rattle.ranges.specs.Tests.{tested}
 use Rattle.codec.proofs.BoundedLaws.{bounded-valid, bounded-decode}
+
+-- m cells from cell j on, tested one by one
+valid_all-list : {A : Type 0} {k : ℕ} (F : Form A k) (o j m : ℕ) (b : List ℕ)
+    → list_all (λ (i : ℕ). F.valid (part (o + i * k) k b)) (range_with_len j m) ≡ valid_all F m (drop (o + j * k) b)
+unfolding valid_all
+valid_all-list F o j zero b = refl
+valid_all-list {A} {k} F o j (suc m) b =
+    let e : o + (j + 1) * k ≡ o + j * k + k = omega arith in
+    ap (λ (t : Bool). F.valid (part (o + j * k) k b) && t)
+    (valid_all-list F o (j + 1) m b ∙ ap (valid_all F m) (ap (λ (i : ℕ). drop i b) e ∙ sym (drop-drop k (o + j * k) b)))
 
 module _ {A : Type 0} {k : ℕ} (F : Form A k) where
   -- a form with the same test
@@ -103,6 +115,14 @@ module _ {A : Type 0} {k : ℕ} (F : Form A k) where
           ap₂ ◌&&◌ (valid_all-first m (n * k) (drop o b) l)
           (ap all_zero (drop-part o (n * k) (m * k) b l ∙ ap (λ (j : ℕ). part (o + m * k) j b) r))
 
+      -- by a list of their indices
+      pub cells-list : list_all (λ (i : ℕ). F.valid (part (o + i * k) k b)) (range_with_len 0 m) && all_zero (part (o + m * k) (t - (o + m * k)) b)
+          ≡ (cells F m n).valid (part o (n * k) b)
+      cells-list =
+          let f : o + 0 * k ≡ o = omega (arith, zero-mul k) in
+          ap (λ (u : Bool). u && all_zero (part (o + m * k) (t - (o + m * k)) b)) (valid_all-list F o 0 m b ∙ ap (λ (j : ℕ). valid_all F m (drop j b)) f)
+          ∙ sym cells-part
+
       -- a cell is not valid
       pub cells-fail : (i : ℕ) → i < m → F.valid (part (o + i * k) k b) ≡ false → Left i → (cells F m n).valid (part o (n * k) b) ≡ false
       cells-fail i j v l =
@@ -118,3 +138,16 @@ module _ {A : Type 0} {k : ℕ} (F : Form A k) where
           cells-part
           ∙ ap (λ (u : Bool). u && all_zero (part (o + m * k) (t - (o + m * k)) b))
           (l ∙ ap (λ (x : ℕ). valid_all F x (drop (o + i * k) b)) z)
+
+-- cells by their tests alone
+pub by_test : {A : Type 0} {k : ℕ} (F : Form A k) (m n : ℕ) (b : List ℕ) → (cells (tested k F.valid) m n).valid b ≡ (cells F m n).valid b
+unfolding tested
+by_test {A} {k} F m n b = cells_same (tested k F.valid) F (λ x. refl) m n b
+
+-- and where a count stands before them
+pub bounded-by_test : {A : Type 0} {k : ℕ} (F : Form A k) (cap o : ℕ) (b : List ℕ) → o + (1 + cap * k) ≤ length b
+    → (bounded (tested k F.valid) cap).valid (part o (1 + cap * k) b) ≡ (bounded F cap).valid (part o (1 + cap * k) b)
+bounded-by_test {A} {k} F cap o b h =
+    bounded-part (tested k F.valid) cap o b h
+    ∙ ap (λ (t : Bool). leb (get_or b o 0) cap && t) (by_test F (get_or b o 0) cap (part (o + 1) (cap * k) b))
+    ∙ sym (bounded-part F cap o b h)

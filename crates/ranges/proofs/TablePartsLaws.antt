@@ -2,13 +2,17 @@
 use Prim.Native.Nat.{ℕ, zero, suc, ◌+◌, ◌-◌, ◌*◌, ◌≤◌, ◌<◌}
 use native.Mathlib.Omega.{arith}
 use native.Mathlib.Nat.{not-suc-le-zero, le_of_suc-le-suc}
-use mathlib.Core.Path.{◌≡◌, refl, sym, ap, ap₂, ◌∙◌}
+use mathlib.Core.Path.{◌≡◌, refl, sym, ap, ap₂, subst, ◌∙◌}
 use mathlib.Core.Bool.{Bool, true, false, ◌&&◌, and-eq-true_iff}
 use mathlib.Core.List.{List, ◌∷◌}
 use lib.Dec.{leb, ltb, leb-zero}
 use lib.ListN.{length, get_or, take, drop}
 use lib.Seq.{drop-drop}
-use borrow.Author.Tests.{leb-true, le-leb, lt-leb, lt-ltb, le-ltb}
+use borrow.Author.Tests.{leb-true, lt-ltb, le-ltb}
+use Rattle.std.specs.Prelude.{Option, None, Some, MatchOption}
+use Rattle.std.specs.Option.{unwrap_or}
+use Rattle.std.specs.List.{AllWithin, HoldsAt, range_with_len}
+use Rattle.std.proofs.lemmas.List.FromFn.{length-range_with_len, get_or-range_with_len}
 use Rattle.base.specs.Numbers.{numbers}
 use Rattle.base.specs.Lists.{has, rising}
 use Rattle.base.proofs.Bools.{by_cases}
@@ -27,7 +31,7 @@ use Rattle.store.specs.Cells.{blank_entry}
 use Rattle.store.specs.CellForms.{entry_form, recorder_form, endpoint_form, queue_form, vote_form}
 use Rattle.store.specs.ViewForm.{Views, view_form, numbers_of, numbers_rise, view_list, views_form}
 use Rattle.store.specs.HallForm.{entries_form, recorders_form, row_form, network_form, queues_form, votes_form, body_form, after_size, fields, hall_fields}
-use Rattle.ranges.specs.TableParts.{view_numbers, Found, tables_in}
+use Rattle.ranges.specs.TableParts.{view_numbers, view_at, Found, tables_in}
 use Rattle.ranges.proofs.Parts.{given-part, pair-part, given-value, byte-part}
 use Rattle.ranges.proofs.Loops.{cells_same, bounded-part, bounded-value}
 
@@ -62,6 +66,32 @@ module _ (m : ℕ) (b : List ℕ) (g : ℕ) where
     where
       early : has ks g ≡ true → index_of ks g < i
       early t = omega (arith, inside t)
+
+-- the indices below m, as a list: what holds of element j holds of j
+index-range : (P : ℕ → Type 0) (m j : ℕ) → j < m → P (get_or (range_with_len 0 m) j 0) → P j
+index-range P m j l p =
+    let e : 0 + j ≡ j = omega arith in
+    subst P (get_or-range_with_len 0 m j 0 l ∙ e) p
+
+-- a search over them finds the first view g
+pub found-first : (m : ℕ) (b : List ℕ) (g : ℕ) (r : Option ℕ)
+    → MatchOption r (AllWithin (λ i. view_at b i ≡ g → ⊥) (range_with_len 0 m) 0 (length (range_with_len 0 m)))
+    (λ i. (i < length (range_with_len 0 m)) × HoldsAt (λ i. view_at b i ≡ g) (range_with_len 0 m) i × AllWithin (λ i. view_at b i ≡ g → ⊥) (range_with_len 0 m) 0 i)
+    → Found m b g (unwrap_or r m)
+found-first m b g None h =
+    let n = length-range_with_len 0 m in
+    record {
+      within = omega arith;
+      here = λ l. absurd (omega arith);
+      before = λ j l. index-range (λ i. view_at b i ≡ g → ⊥) m j l (h j 0 (omega arith) (omega (arith, n)));
+    }
+found-first m b g (Some i) h =
+    let n = length-range_with_len 0 m in
+    record {
+      within = omega (arith, n, h.0);
+      here = λ l. index-range (λ i. view_at b i ≡ g) m i l (h.1 0);
+      before = λ j l. index-range (λ i. view_at b i ≡ g → ⊥) m j (omega (arith, n, h.0)) (h.2 j 0 (omega arith) l);
+    }
 
 -- the number of the view at offset o
 view-number : (n o : ℕ) (b : List ℕ) → ((view_form n).decode (part o view_size b)).0 ≡ value (part o number_size b)
@@ -117,31 +147,30 @@ module _ (m : ℕ) (b : List ℕ) where
 -- the table of views: a count, the cells, and the numbers rise
 module _ (n : ℕ) (b : List ℕ) (h : entries_at ≤ length b) where
   views-parts : (views_form n).valid (part views_at views_size b)
-      ≡ (leb (get_or b views_at 0) max_views && (cells (view_form n) (get_or b views_at 0) max_views).valid (part view_cells (max_views * view_size) b)) && rising 0 (numbers_of ((bounded (view_form n) max_views).decode (part views_at views_size b)))
+      ≡ (bounded (view_form n) max_views).valid (part views_at views_size b) && rising 0 (numbers_of ((bounded (view_form n) max_views).decode (part views_at views_size b)))
   unfolding views_form mapped view_list guarded numbers_rise
-  views-parts = ap (λ (t : Bool). t && rising 0 (numbers_of ((bounded (view_form n) max_views).decode (part views_at views_size b)))) (bounded-part (view_form n) max_views views_at b h)
+  views-parts = refl
 
-  pub views-over : max_views < get_or b views_at 0 → (views_form n).valid (part views_at views_size b) ≡ false
-  views-over l =
-      views-parts
-      ∙ ap (λ (t : Bool). (t && (cells (view_form n) (get_or b views_at 0) max_views).valid (part view_cells (max_views * view_size) b)) && rising 0 (numbers_of ((bounded (view_form n) max_views).decode (part views_at views_size b)))) (lt-leb (get_or b views_at 0) max_views l)
+  pub views-fail : (bounded (view_form n) max_views).valid (part views_at views_size b) ≡ false → (views_form n).valid (part views_at views_size b) ≡ false
+  views-fail e = views-parts ∙ rw e
 
   pub views-count : (views_form n).valid (part views_at views_size b) ≡ true → get_or b views_at 0 ≤ max_views
   views-count v =
-      let p = (and-eq-true_iff (leb (get_or b views_at 0) max_views && (cells (view_form n) (get_or b views_at 0) max_views).valid (part view_cells (max_views * view_size) b)) (rising 0 (numbers_of ((bounded (view_form n) max_views).decode (part views_at views_size b))))).0 (sym views-parts ∙ v) in
-      leb-true (get_or b views_at 0) max_views ((and-eq-true_iff (leb (get_or b views_at 0) max_views) ((cells (view_form n) (get_or b views_at 0) max_views).valid (part view_cells (max_views * view_size) b))).0 p.0).0
+      let t = (cells (view_form n) (get_or b views_at 0) max_views).valid (part view_cells (max_views * view_size) b) in
+      let p = (and-eq-true_iff ((bounded (view_form n) max_views).valid (part views_at views_size b)) (rising 0 (numbers_of ((bounded (view_form n) max_views).decode (part views_at views_size b))))).0 (sym views-parts ∙ v) in
+      leb-true (get_or b views_at 0) max_views ((and-eq-true_iff (leb (get_or b views_at 0) max_views) t).0 (sym (bounded-part (view_form n) max_views views_at b h) ∙ p.0)).0
 
   -- the numbers of the views
+  created : get_or b views_at 0 ≤ max_views → numbers_of ((bounded (view_form n) max_views).decode (part views_at views_size b)) ≡ view_numbers (get_or b views_at 0) view_cells b
+  created l = ap numbers_of (bounded-value (view_form n) max_views views_at b h l) ∙ numbers-of-views n (get_or b views_at 0) view_cells b
+
   pub views-created : get_or b views_at 0 ≤ max_views → ((views_form n).decode (part views_at views_size b)).0 ≡ view_numbers (get_or b views_at 0) view_cells b
   unfolding views_form mapped view_list guarded
-  views-created l = ap numbers_of (bounded-value (view_form n) max_views views_at b h l) ∙ numbers-of-views n (get_or b views_at 0) view_cells b
+  views-created l = created l
 
-  pub views-part : get_or b views_at 0 ≤ max_views → (views_form n).valid (part views_at views_size b)
-      ≡ (cells (view_form n) (get_or b views_at 0) max_views).valid (part view_cells (max_views * view_size) b) && rising 0 (view_numbers (get_or b views_at 0) view_cells b)
-  views-part l =
-      views-parts
-      ∙ ap₂ (λ (t : Bool) (x : List ℕ). (t && (cells (view_form n) (get_or b views_at 0) max_views).valid (part view_cells (max_views * view_size) b)) && rising 0 x) (le-leb (get_or b views_at 0) max_views l)
-      (ap numbers_of (bounded-value (view_form n) max_views views_at b h l) ∙ numbers-of-views n (get_or b views_at 0) view_cells b)
+  pub views-rise : (bounded (view_form n) max_views).valid (part views_at views_size b) ≡ true → get_or b views_at 0 ≤ max_views
+      → (views_form n).valid (part views_at views_size b) ≡ rising 0 (view_numbers (get_or b views_at 0) view_cells b)
+  views-rise v l = views-parts ∙ rw v (ap (rising 0) (created l))
 
 -- ## The other tables
 
@@ -156,12 +185,9 @@ entries-part n b h =
     (byte-part 0 max_entries entries_at b h ∙ ap (λ (t : Bool). t && leb c max_entries) (leb-zero c))
     (length-numbers 1 ((byte 0 max_entries).decode (part entries_at 1 b)) ∙ number-decode 0 0 max_entries entries_at b h ∙ e)
 
-pub entries_over : (n : ℕ) (b : List ℕ) → entries_at < length b → max_entries < get_or b entries_at 0 → (entries_form n).valid (part entries_at entries_size b) ≡ false
-entries_over n b h l = entries-part n b h ∙ rw (lt-leb (get_or b entries_at 0) max_entries l)
-
-pub entries-within : (n : ℕ) (b : List ℕ) → entries_at < length b → get_or b entries_at 0 ≤ max_entries
-    → (entries_form n).valid (part entries_at entries_size b) ≡ (cells (entry_form n) (get_or b entries_at 0) max_entries).valid (part entry_cells (max_entries * entry_size) b)
-entries-within n b h l = entries-part n b h ∙ rw (le-leb (get_or b entries_at 0) max_entries l)
+pub entries-bounded : (n : ℕ) (b : List ℕ) → recorders_at ≤ length b
+    → (entries_form n).valid (part entries_at entries_size b) ≡ (bounded (entry_form n) max_entries).valid (part entries_at entries_size b)
+entries-bounded n b h = entries-part n b (omega arith) ∙ sym (bounded-part (entry_form n) max_entries entries_at b h)
 
 body-part : (n m : ℕ) (v : Views) (b : List ℕ) → length v.0 ≡ m → (body_form n v).valid (part entries_at body_size b) ≡ tables_in n m b
 unfolding body_form recorders_form network_form queues_form row_form votes_form table mapped tables_in

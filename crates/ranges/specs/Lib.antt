@@ -1,2 +1,3 @@
 pub mod CellParts
 pub mod TableParts
+pub mod Tests

@@ -5,25 +5,28 @@
 
 #![tactic(auto)]
 
-ghost use Rattle.std.specs.Prelude.{◌≡◌, ◌+◌, ◌-◌, ◌*◌, ◌≤◌, ◌<◌, length, take};
+ghost use Rattle.std.specs.Prelude.{◌≡◌, ℕ, Bool, List, IsTrue, ◌+◌, ◌-◌, ◌*◌, ◌≤◌, ◌<◌, length, get_or, take};
 ghost use Rattle.codec.specs.Bytes.{part};
 ghost use Rattle.codec.specs.Number.{byte, mark};
 ghost use Rattle.codec.specs.Cells.{cells};
+ghost use Rattle.codec.specs.Bounded.{bounded};
 ghost use Rattle.codec.specs.Table.{flags};
 ghost use Rattle.base.specs.Lists.{rising};
 ghost use Rattle.model.specs.Hall.{max_entries, max_views, max_queue, max_recorders};
 ghost use Rattle.store.specs.Layout.{views_at, view_cells, entries_at, entry_cells, recorders_at, network_at, queues_at, votes_at};
 ghost use Rattle.store.specs.Layout.{stored_length, views_size, entries_size, recorders_size, network_size, queues_size, votes_size};
-ghost use Rattle.store.specs.Layout.{view_size, entry_size, recorder_size, endpoint_size, row_size, summary_size};
+ghost use Rattle.store.specs.Layout.{view_size, entry_size, recorder_size, recorder_confirm_at, endpoint_size, row_size, summary_size};
 ghost use Rattle.store.specs.Layout.{queue_size, number_size, word_size, sets_size, sent_size, queued_size, messages_size};
 ghost use Rattle.store.specs.CellForms.{entry_form, summary_form, sent_form, recorder_form};
 ghost use Rattle.store.specs.CellForms.{endpoint_form, queued_form, queue_form, vote_form};
 ghost use Rattle.store.specs.ViewForm.{view_form, views_form};
 ghost use Rattle.store.specs.HallForm.{entries_form, hall_fields};
+ghost use Rattle.ranges.specs.Tests.{tested, Tests};
 ghost use Rattle.ranges.specs.CellParts.{whole_label, recorder_rest};
-ghost use Rattle.ranges.specs.TableParts.{view_numbers, Found, tables_in};
+ghost use Rattle.ranges.specs.TableParts.{view_numbers, view_at, Found, tables_in};
 
-use model::{limits, phase_numbers};
+use model::limits;
+use model::phases::Phase;
 use quorum::{MAX_VOTE, all_of};
 use store::layout;
 
@@ -39,6 +42,55 @@ const SEQUENCE_MARK: u8 = SEQUENCE + 1;
 const ORDER_MARK: u8 = limits::MAX_ORDER as u8 + 1;
 
 const QUEUE_MARK: u8 = limits::MAX_QUEUE as u8 + 1;
+
+// "phase (0, 1, 2 as listed)"
+const FIRST_PHASE: u8 = Phase::Normal as u8;
+
+const LAST_PHASE: u8 = Phase::Collect as u8;
+
+// A table of cells: the offset at which it begins, the size of a cell, and how many places it has.
+#[derive(Clone, Copy)]
+struct Table {
+    at: usize,
+    size: usize,
+    places: usize,
+}
+
+impl Table {
+    // Are its first m cells valid, by a test at a cell's offset, and do zeros follow in its other places?
+    fn valid_cells<F: Fn(usize) -> bool>(self, b: &[u8], m: usize, valid: F) -> bool
+        requires within { (m ≤ self.places) × (self.at + self.places * self.size ≤ length b.now) }
+        requires tested { (i : ℕ) → i < m → F.pre valid (self.at + i * self.size) }
+        ensures { (test : List ℕ → Bool) → Tests (F.post valid) test self.at self.size b.now
+            → result ≡ (cells (tested self.size test) m self.places
+            ).valid (part self.at (self.places * self.size) b.now) }
+    {
+        (0..m).all(|i| valid(self.at + i * self.size))
+            && codec::is_zero(
+                b,
+                self.at + m * self.size,
+                self.at + self.places * self.size,
+            )
+    }
+
+    // Where a table begins with a byte that says how many cells are in use: is it no more than its places, and are
+    // the cells that follow valid?
+    fn valid_counted<F: Fn(usize) -> bool>(self, b: &[u8], valid: F) -> bool
+        requires within { self.at + (1 + self.places * self.size) ≤ length b.now }
+        requires tested { (i : ℕ) → i < self.places → F.pre valid (self.at + 1 + i * self.size) }
+        ensures count { IsTrue result → get_or b.now self.at 0 ≤ self.places }
+        ensures value { (test : List ℕ → Bool) → Tests (F.post valid) test (self.at + 1) self.size b.now
+            → result ≡ (bounded (tested self.size test) self.places
+            ).valid (part self.at (1 + self.places * self.size) b.now) }
+    {
+        let m = b[self.at] as usize;
+        let cells = Table {
+            at: self.at + 1,
+            ..self
+        };
+        m <= self.places && cells.valid_cells(b, m, valid)
+    }
+}
 
 // Is the byte at an offset in lo .. hi?
 fn valid_byte(b: &[u8], at: usize, lo: u8, hi: u8) -> bool
@@ -77,8 +129,8 @@ fn valid_entry(b: &[u8], at: usize, n: u8) -> bool
     requires { at + entry_size ≤ length b.now }
     ensures { result ≡ (entry_form n).valid (part at entry_size b.now) }
 {
-    let view = at + layout::ENTRY_PAYLOAD + layout::PAYLOAD;
-    let seq = view + layout::NUMBER;
+    let view = at + layout::ENTRY_LABEL;
+    let seq = at + layout::ENTRY_SEQUENCE;
     valid_byte(b, at, 1, n)
         & valid_byte(b, seq, 0, SEQUENCE)
         & whole_label(codec::get_u32(b, view), b[seq])
@@ -89,11 +141,9 @@ fn valid_summary(b: &[u8], at: usize) -> bool
     requires { at + summary_size ≤ length b.now }
     ensures { result ≡ summary_form.valid (part at summary_size b.now) }
 {
-    let order = at + layout::SUMMARY_ORDER;
-    let confirm = order + layout::ORDER;
     valid_flags(b, at, limits::MAX_ENTRIES)
-        & codec::valid_list(b, order, limits::MAX_ORDER, 1, ENTRIES)
-        & valid_mark(b, confirm, ORDER_MARK)
+        & codec::valid_list(b, at + layout::SUMMARY_ORDER, limits::MAX_ORDER, 1, ENTRIES)
+        & valid_mark(b, at + layout::SUMMARY_CONFIRM, ORDER_MARK)
 }
 
 // "At most one sent summary": a count, and the summary or zeros.
@@ -101,32 +151,24 @@ fn valid_sent(b: &[u8], at: usize) -> bool
     requires { at + sent_size ≤ length b.now }
     ensures { result ≡ sent_form.valid (part at sent_size b.now) }
 {
-    let count = b[at];
-    if count == 0 {
-        return codec::is_zero(b, at + 1, at + layout::SENT);
+    match b[at] {
+        0 => codec::is_zero(b, at + 1, at + layout::SENT),
+        1 => valid_summary(b, at + 1),
+        _ => false,
     }
-    if count == 1 {
-        return valid_summary(b, at + 1);
-    }
-    false
 }
 
 // A recorder's fields after its order: marks, highest primary, known, safe, heard, safe sources.
 fn valid_recorder_rest(b: &[u8], at: usize) -> bool
-    requires { at + (1 + (1 + (number_size + sets_size))) ≤ length b.now }
-    ensures { result ≡ recorder_rest at b.now }
+    requires { at + recorder_size ≤ length b.now }
+    ensures { result ≡ recorder_rest (at + recorder_confirm_at) b.now }
 {
-    let report = at + 1;
-    let high = report + 1;
-    let known = high + layout::NUMBER;
-    let safe = known + limits::MAX_ENTRIES;
-    let heard = safe + limits::MAX_ENTRIES;
-    valid_mark(b, at, ORDER_MARK)
-        & valid_mark(b, report, ORDER_MARK)
-        & valid_flags(b, known, limits::MAX_ENTRIES)
-        & valid_flags(b, safe, limits::MAX_ENTRIES)
-        & valid_flags(b, heard, limits::MAX_RECORDERS)
-        & valid_flags(b, heard + limits::MAX_RECORDERS, limits::MAX_RECORDERS)
+    valid_mark(b, at + layout::RECORDER_CONFIRM, ORDER_MARK)
+        & valid_mark(b, at + layout::RECORDER_REPORT, ORDER_MARK)
+        & valid_flags(b, at + layout::RECORDER_KNOWN, limits::MAX_ENTRIES)
+        & valid_flags(b, at + layout::RECORDER_SAFE, limits::MAX_ENTRIES)
+        & valid_flags(b, at + layout::RECORDER_HEARD, limits::MAX_RECORDERS)
+        & valid_flags(b, at + layout::RECORDER_SAFE_SOURCES, limits::MAX_RECORDERS)
 }
 
 // "For each recorder: current view, phase, known entries, .."
@@ -134,15 +176,27 @@ fn valid_recorder(b: &[u8], at: usize) -> bool
     requires { at + recorder_size ≤ length b.now }
     ensures { result ≡ recorder_form.valid (part at recorder_size b.now) }
 {
-    let phase = at + layout::NUMBER;
-    let next = phase + 1;
-    let buffer = next + 1;
-    let order = buffer + layout::BUFFER;
-    valid_byte(b, phase, phase_numbers::NORMAL, phase_numbers::COLLECT)
-        & valid_mark(b, next, SEQUENCE_MARK)
-        & codec::valid_list(b, buffer, limits::MAX_BUFFER, 1, ENTRIES)
-        & codec::valid_list(b, order, limits::MAX_ORDER, 1, ENTRIES)
-        & valid_recorder_rest(b, order + layout::ORDER)
+    valid_byte(
+        b,
+        at + layout::RECORDER_PHASE,
+        FIRST_PHASE,
+        LAST_PHASE,
+    ) & valid_mark(b, at + layout::RECORDER_SEQUENCE, SEQUENCE_MARK)
+        & codec::valid_list(
+            b,
+            at + layout::RECORDER_BUFFER,
+            limits::MAX_BUFFER,
+            1,
+            ENTRIES,
+        )
+        & codec::valid_list(
+            b,
+            at + layout::RECORDER_ORDER,
+            limits::MAX_ORDER,
+            1,
+            ENTRIES,
+        )
+        & valid_recorder_rest(b, at)
 }
 
 // "For each recorder and view: a pending list, receive and safe marks, and at most one sent summary."
@@ -150,12 +204,10 @@ fn valid_endpoint(b: &[u8], at: usize) -> bool
     requires { at + endpoint_size ≤ length b.now }
     ensures { result ≡ endpoint_form.valid (part at endpoint_size b.now) }
 {
-    let receive = at + layout::PENDING;
-    let safe = receive + 1;
     codec::valid_list(b, at, limits::MAX_PENDING, 0, ENTRIES)
-        & valid_mark(b, receive, QUEUE_MARK)
-        & valid_mark(b, safe, QUEUE_MARK)
-        & valid_sent(b, safe + 1)
+        & valid_mark(b, at + layout::ENDPOINT_NEXT, QUEUE_MARK)
+        & valid_mark(b, at + layout::ENDPOINT_NEXT_SAFE, QUEUE_MARK)
+        & valid_sent(b, at + layout::ENDPOINT_SENT)
 }
 
 // A queued message "with its source".
@@ -166,47 +218,17 @@ fn valid_queued(b: &[u8], at: usize) -> bool
     valid_byte(b, at, 1, RECORDERS) & valid_byte(b, at + layout::QUEUED_MESSAGE, 0, ENTRIES)
 }
 
-// The m messages of a queue, and zeros.
-fn valid_messages(b: &[u8], at: usize, m: usize) -> bool
-    requires { (m ≤ max_queue) × (at + messages_size ≤ length b.now) }
-    ensures { result ≡ (cells queued_form m max_queue).valid (part at messages_size b.now) }
-{
-    let mut i = 0;
-    while i < m {
-        if !valid_queued(b, at + i * layout::QUEUED) {
-            return false;
-        }
-        i += 1;
-    }
-    codec::is_zero(b, at + m * layout::QUEUED, at + layout::MESSAGES)
-}
-
 // "A view's queue holds at most 72 messages, each with its source."
 fn valid_queue(b: &[u8], at: usize) -> bool
     requires { at + queue_size ≤ length b.now }
     ensures { result ≡ queue_form.valid (part at queue_size b.now) }
 {
-    let m = b[at] as usize;
-    if limits::MAX_QUEUE < m {
-        return false;
-    }
-    valid_messages(b, at + 1, m)
-}
-
-// The m entries of a hall of n recorders, and zeros.
-fn valid_entry_cells(b: &[u8], m: usize, n: u8) -> bool
-    requires { (m ≤ max_entries) × (recorders_at ≤ length b.now) }
-    ensures { result ≡ (cells (entry_form n) m max_entries
-        ).valid (part entry_cells (max_entries * entry_size) b.now) }
-{
-    let mut i = 0;
-    while i < m {
-        if !valid_entry(b, layout::ENTRIES + i * layout::ENTRY, n) {
-            return false;
-        }
-        i += 1;
-    }
-    codec::is_zero(b, layout::ENTRIES + m * layout::ENTRY, layout::RECORDERS)
+    let messages = Table {
+        at,
+        size: layout::QUEUED,
+        places: limits::MAX_QUEUE,
+    };
+    messages.valid_counted(b, |cell| valid_queued(b, cell))
 }
 
 // "Entries, at most 64 ever submitted."
@@ -214,11 +236,12 @@ fn valid_entries(b: &[u8], n: u8) -> bool
     requires { recorders_at ≤ length b.now }
     ensures { result ≡ (entries_form n).valid (part entries_at entries_size b.now) }
 {
-    let m = b[layout::ENTRY_COUNT] as usize;
-    if limits::MAX_ENTRIES < m {
-        return false;
-    }
-    valid_entry_cells(b, m, n)
+    let entries = Table {
+        at: layout::ENTRY_COUNT,
+        size: layout::ENTRY,
+        places: limits::MAX_ENTRIES,
+    };
+    entries.valid_counted(b, |cell| valid_entry(b, cell, n))
 }
 
 // The n recorders, and zeros.
@@ -226,14 +249,12 @@ fn valid_recorders(b: &[u8], n: usize) -> bool
     requires { (n ≤ max_recorders) × (network_at ≤ length b.now) }
     ensures { result ≡ (cells recorder_form n max_recorders).valid (part recorders_at recorders_size b.now) }
 {
-    let mut i = 0;
-    while i < n {
-        if !valid_recorder(b, layout::RECORDERS + i * layout::RECORDER) {
-            return false;
-        }
-        i += 1;
-    }
-    codec::is_zero(b, layout::RECORDERS + n * layout::RECORDER, layout::NETWORK)
+    let recorders = Table {
+        at: layout::RECORDERS,
+        size: layout::RECORDER,
+        places: limits::MAX_RECORDERS,
+    };
+    recorders.valid_cells(b, n, |cell| valid_recorder(b, cell))
 }
 
 // A recorder's endpoints in m views, and zeros.
@@ -241,14 +262,12 @@ fn valid_row(b: &[u8], at: usize, m: usize) -> bool
     requires { (m ≤ max_views) × (at + row_size ≤ length b.now) }
     ensures { result ≡ (cells endpoint_form m max_views).valid (part at row_size b.now) }
 {
-    let mut i = 0;
-    while i < m {
-        if !valid_endpoint(b, at + i * layout::ENDPOINT) {
-            return false;
-        }
-        i += 1;
-    }
-    codec::is_zero(b, at + m * layout::ENDPOINT, at + layout::ROW)
+    let endpoints = Table {
+        at,
+        size: layout::ENDPOINT,
+        places: limits::MAX_VIEWS,
+    };
+    endpoints.valid_cells(b, m, |cell| valid_endpoint(b, cell))
 }
 
 // The endpoints of n recorders in m views, and zeros.
@@ -257,14 +276,12 @@ fn valid_network(b: &[u8], n: usize, m: usize) -> bool
     ensures { result ≡ (cells (cells endpoint_form m max_views) n max_recorders
         ).valid (part network_at network_size b.now) }
 {
-    let mut i = 0;
-    while i < n {
-        if !valid_row(b, layout::NETWORK + i * layout::ROW, m) {
-            return false;
-        }
-        i += 1;
-    }
-    codec::is_zero(b, layout::NETWORK + n * layout::ROW, layout::QUEUES)
+    let rows = Table {
+        at: layout::NETWORK,
+        size: layout::ROW,
+        places: limits::MAX_RECORDERS,
+    };
+    rows.valid_cells(b, n, |cell| valid_row(b, cell, m))
 }
 
 // The queues of m views, and zeros.
@@ -272,14 +289,12 @@ fn valid_queues(b: &[u8], m: usize) -> bool
     requires { (m ≤ max_views) × (votes_at ≤ length b.now) }
     ensures { result ≡ (cells queue_form m max_views).valid (part queues_at queues_size b.now) }
 {
-    let mut i = 0;
-    while i < m {
-        if !valid_queue(b, layout::QUEUES + i * layout::QUEUE) {
-            return false;
-        }
-        i += 1;
-    }
-    codec::is_zero(b, layout::QUEUES + m * layout::QUEUE, layout::VOTES)
+    let queues = Table {
+        at: layout::QUEUES,
+        size: layout::QUEUE,
+        places: limits::MAX_VIEWS,
+    };
+    queues.valid_cells(b, m, |cell| valid_queue(b, cell))
 }
 
 // A recorder's votes: "0 to 1,000 each" (02, A4).
@@ -295,14 +310,12 @@ fn valid_votes(b: &[u8], n: usize) -> bool
     requires { (n ≤ max_recorders) × (stored_length ≤ length b.now) }
     ensures { result ≡ (cells vote_form n max_recorders).valid (part votes_at votes_size b.now) }
 {
-    let mut i = 0;
-    while i < n {
-        if !valid_vote(b, layout::VOTES + i * layout::WORD) {
-            return false;
-        }
-        i += 1;
-    }
-    codec::is_zero(b, layout::VOTES + n * layout::WORD, layout::LENGTH)
+    let votes = Table {
+        at: layout::VOTES,
+        size: layout::WORD,
+        places: limits::MAX_RECORDERS,
+    };
+    votes.valid_cells(b, n, |cell| valid_vote(b, cell))
 }
 
 // A view's number, 1 on, and set, "not empty and within N".
@@ -314,20 +327,12 @@ fn valid_view(b: &[u8], at: usize, n: u8) -> bool
     (1 <= g) & valid_byte(b, at + layout::VIEW_SET, 1, all_of(n as u32) as u8)
 }
 
-// The m views of a hall of n recorders, and zeros.
-fn valid_view_cells(b: &[u8], m: usize, n: u8) -> bool
-    requires { (m ≤ max_views) × (1 ≤ n) × (n ≤ max_recorders) × (entries_at ≤ length b.now) }
-    ensures { result ≡ (cells (view_form n) m max_views
-        ).valid (part view_cells (max_views * view_size) b.now) }
+// The number of the view at index i.
+fn view_number(b: &[u8], i: usize) -> u32
+    requires { view_cells + i * view_size + number_size ≤ length b.now }
+    ensures { result ≡ view_at b.now i }
 {
-    let mut i = 0;
-    while i < m {
-        if !valid_view(b, layout::VIEWS + i * layout::VIEW, n) {
-            return false;
-        }
-        i += 1;
-    }
-    codec::is_zero(b, layout::VIEWS + m * layout::VIEW, layout::ENTRY_COUNT)
+    codec::get_u32(b, layout::VIEWS + i * layout::VIEW)
 }
 
 // "Numbers rising."
@@ -336,14 +341,12 @@ fn views_rise(b: &[u8], m: usize) -> bool
     ensures { result ≡ rising 0 (view_numbers m view_cells b.now) }
 {
     let mut last = 0;
-    let mut i = 0;
-    while i < m {
-        let g = codec::get_u32(b, layout::VIEWS + i * layout::VIEW);
+    for i in 0..m {
+        let g = view_number(b, i);
         if g <= last {
             return false;
         }
         last = g;
-        i += 1;
     }
     true
 }
@@ -353,14 +356,7 @@ pub fn find_view(b: &[u8], m: usize, g: u32) -> usize
     requires { (m ≤ max_views) × (entries_at ≤ length b.now) }
     ensures { Found m b.now g result }
 {
-    let mut i = 0;
-    while i < m {
-        if codec::get_u32(b, layout::VIEWS + i * layout::VIEW) == g {
-            return i;
-        }
-        i += 1;
-    }
-    m
+    (0..m).position(|i| view_number(b, i) == g).unwrap_or(m)
 }
 
 // "The formed views, at most 32, numbers rising, sets not empty and within N."
@@ -368,11 +364,13 @@ fn valid_views(b: &[u8], n: u8) -> bool
     requires { (1 ≤ n) × (n ≤ max_recorders) × (entries_at ≤ length b.now) }
     ensures { result ≡ (views_form n).valid (part views_at views_size b.now) }
 {
-    let m = b[layout::VIEW_COUNT] as usize;
-    if limits::MAX_VIEWS < m {
-        return false;
-    }
-    valid_view_cells(b, m, n) & views_rise(b, m)
+    let views = Table {
+        at: layout::VIEW_COUNT,
+        size: layout::VIEW,
+        places: limits::MAX_VIEWS,
+    };
+    views.valid_counted(b, |cell| valid_view(b, cell, n))
+        && views_rise(b, b[layout::VIEW_COUNT] as usize)
 }
 
 // The entries, recorders, endpoints, queues and votes of n recorders and m views.

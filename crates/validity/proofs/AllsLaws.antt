@@ -29,6 +29,10 @@ module _ (p : ℕ → Bool) where
   all_append [] ys = refl
   all_append (x ∷ xs) ys = ap (λ (t : Bool). p x && t) (all_append xs ys) ∙ sym (and_assoc (p x) (all p xs) (all p ys))
 
+  pub all-snoc : (xs : List ℕ) (x : ℕ) → all p (xs ++ (x ∷ [])) ≡ all p xs && p x
+  unfolding all
+  all-snoc xs x = all_append xs (x ∷ []) ∙ ap (λ (t : Bool). all p xs && t) (and-true (p x))
+
   pub all-at : (xs : List ℕ) (x : ℕ) → all p xs ≡ true → has xs x ≡ true → p x ≡ true
   unfolding all has
   all-at [] x a h = absurd (false≢true h)

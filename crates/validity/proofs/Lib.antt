@@ -1,3 +1,4 @@
+pub mod ChainLaws
 pub mod CodeLaws
 pub mod CrossPartsLaws
 pub mod RawCells

@@ -3,7 +3,7 @@ use Prim.Native.Nat.{ℕ, zero, suc, ◌+◌, ◌-◌, ◌*◌, ◌≤◌, ◌<�
 use native.Mathlib.Omega.{arith}
 use native.Mathlib.Nat.{mul-one, not-suc-le-zero, le_of_suc-le-suc}
 use mathlib.Core.Path.{◌≡◌, refl, sym, ap, ap₂, ◌∙◌}
-use mathlib.Core.Bool.{Bool, true, false, not, ◌||◌}
+use mathlib.Core.Bool.{Bool, true, false, not, ◌&&◌, ◌||◌}
 use mathlib.Core.List.{List, [], ◌∷◌}
 use lib.Dec.{eqb, lit≤}
 use lib.ListN.{length, get_or, drop, length-take, length-drop}
@@ -39,6 +39,12 @@ message-past t sent x h = rw (le-ltb x byte_values h)
 pub bit-zero : (t : Bool) → eqb (bit t) 0 ≡ not t
 bit-zero true = refl
 bit-zero false = refl
+
+-- a flag s asks t: what the two tests come to is 0 where it holds
+pub asked-zero : (s t : Bool) → eqb (bit (s && not t)) 0 ≡ (not s || t)
+asked-zero true true = refl
+asked-zero true false = refl
+asked-zero false t = refl
 
 -- what is asked where the flag x is set
 pub flag-on : (x : ℕ) (t : Bool) → 1 ≡ x → (not (eqb 1 x) || t) ≡ t

@@ -52,20 +52,10 @@ fn names_all(b: &[u8], at: usize, unnamed: &[u8; MESSAGES], sent: bool) -> bool
     let from = at + 1;
     let end = from + b[at] as usize;
     let start = messages_from(sent);
-    let mut any: u8 = 0;
-    let mut i = from;
-    while i < end {
-        any = any | unnamed[start + b[i] as usize];
-        i += 1;
-    }
-    any == 0
-}
-
-// 1 if a flag is set and its entry is not labelled, else 0.
-fn lacks(flag: u8, labelled: bool) -> u8
-    ensures { eqb result 0 ≡ (not (eqb 1 flag) || labelled) }
-{
-    codec::flag_byte((1 == flag) & !labelled)
+    b[from..end]
+        .iter()
+        .fold(0u8, |any, x| any | unnamed[start + *x as usize])
+        == 0
 }
 
 // Are the entries of the set of flags at an offset labelled?
@@ -73,13 +63,10 @@ fn names_set(b: &[u8], at: usize, unnamed: &[u8; MESSAGES]) -> bool
     requires { at + max_entries ≤ length b.now }
     ensures { result ≡ all (set_ok unnamed.now b.now at) (up_to max_entries) }
 {
-    let mut any: u8 = 0;
-    let mut j = 0;
-    while j < limits::MAX_ENTRIES {
-        any = any | lacks(b[at + j], unnamed[j + 1] == 0);
-        j += 1;
-    }
-    any == 0
+    (0..limits::MAX_ENTRIES).fold(
+        0u8,
+        |any, j| any | u8::from((1 == b[at + j]) & (unnamed[j + 1] != 0)),
+    ) == 0
 }
 
 // Is k, of recorders 1 to n, in a set?
@@ -112,14 +99,7 @@ fn heard_all(b: &[u8], at: usize, set: u8, i: usize) -> bool
     requires { Ranged b.now × ((i ≤ max_views) × (at + max_recorders ≤ length b.now)) }
     ensures { result ≡ all (heard_ok b.now at set i) (up_to max_recorders) }
 {
-    let mut j = 0;
-    while j < limits::MAX_RECORDERS {
-        if !heard_one(b, at, set, i, j + 1) {
-            return false;
-        }
-        j += 1;
-    }
-    true
+    (1..=limits::MAX_RECORDERS).all(|q| heard_one(b, at, set, i, q))
 }
 
 // If source q is safe, is it a member?
@@ -135,14 +115,7 @@ fn source_all(b: &[u8], at: usize, set: u8) -> bool
     requires { Ranged b.now × (at + max_recorders ≤ length b.now) }
     ensures { result ≡ all (source_ok b.now at set) (up_to max_recorders) }
 {
-    let mut j = 0;
-    while j < limits::MAX_RECORDERS {
-        if !source_one(b, at, set, j + 1) {
-            return false;
-        }
-        j += 1;
-    }
-    true
+    (1..=limits::MAX_RECORDERS).all(|q| source_one(b, at, set, q))
 }
 
 // The set of the view at an index, none past the last.
@@ -166,13 +139,12 @@ fn unnamed_of(b: &[u8]) -> [u8; MESSAGES]
     let m = b[layout::ENTRY_COUNT] as usize;
     let mut unnamed = [1u8; MESSAGES];
     unnamed[BYTES] = 0;
-    let mut i = 0;
-    while i < m {
+    for i in 0..m {
         let sequence = b[layout::ENTRIES + i * layout::ENTRY + layout::ENTRY_SEQUENCE];
         let x = codec::flag_byte(sequence == 0);
-        i += 1;
-        unnamed[i] = x;
-        unnamed[BYTES + i] = x;
+        let e = i + 1;
+        unnamed[e] = x;
+        unnamed[BYTES + e] = x;
     }
     unnamed
 }
@@ -195,21 +167,12 @@ fn keys_of(b: &[u8], m: usize) -> [u64; limits::MAX_ENTRIES]
     ensures { Keys b.now m result }
 {
     let mut keys = [0u64; limits::MAX_ENTRIES];
-    let mut i = 0;
-    while i < m {
+    for i in 0..m {
         let at = layout::ENTRIES + i * layout::ENTRY;
         let view = codec::get_u32(b, at + layout::ENTRY_LABEL);
         keys[i] = label_key(view, b[at + layout::ENTRY_SEQUENCE], b[at], i);
-        i += 1;
     }
     keys
-}
-
-// 1 for two equal keys, else 0.
-fn same(x: u64, y: u64) -> u64
-    ensures { eqb result 0 ≡ not (eqb x y) }
-{
-    if x == y { 1 } else { 0 }
 }
 
 // Does the entry at index i have a key that none before it has?
@@ -218,13 +181,10 @@ fn key_alone(keys: &[u64; limits::MAX_ENTRIES], i: usize) -> bool
     ensures { result ≡ key_alone keys.now i }
 {
     let key = keys[i];
-    let mut any: u64 = 0;
-    let mut j = 0;
-    while j < i {
-        any = any | same(keys[j], key);
-        j += 1;
-    }
-    any == 0
+    keys[..i]
+        .iter()
+        .fold(0u64, |any, x| any | u64::from(*x == key))
+        == 0
 }
 
 // "No two entries share one."
@@ -233,14 +193,7 @@ fn labels_alone(b: &[u8], m: usize) -> bool
     ensures { result ≡ all (λ d. all (apart (raw b.now).entries d) (up_to m)) (up_to m) }
 {
     let keys = keys_of(b, m);
-    let mut j = 0;
-    while j < m {
-        if !key_alone(&keys, j) {
-            return false;
-        }
-        j += 1;
-    }
-    true
+    (0..m).all(|j| key_alone(&keys, j))
 }
 
 // Is the queued message at an offset a member's, and does it name a labelled entry or a sent summary?
@@ -264,12 +217,10 @@ fn names_queue(b: &[u8], i: usize, unnamed: &[u8; MESSAGES]) -> bool
 {
     let at = layout::QUEUES + i * layout::QUEUE;
     let count = b[at] as usize;
-    let mut j = 0;
-    while j < count {
+    for j in 0..count {
         if !names_queued(b, i, at + 1 + j * layout::QUEUED, unnamed) {
             return false;
         }
-        j += 1;
     }
     true
 }
@@ -306,19 +257,12 @@ fn endpoints_cross(b: &[u8], i: usize, unnamed: &[u8; MESSAGES], n: usize) -> bo
     requires { LabelledView b.now unnamed.now i × (n ≡ size_at b.now) }
     ensures { result ≡ all (endpoint_cross (raw b.now) (view_at b.now i)) (up_to n) }
 {
-    let mut j = 0;
-    while j < n {
-        if !endpoint_cross(b, i, unnamed, j + 1) {
-            return false;
-        }
-        j += 1;
-    }
-    true
+    (1..=n).all(|p| endpoint_cross(b, i, unnamed, p))
 }
 
 // The rules of the view at index i.
 fn view_cross(b: &[u8], unnamed: &[u8; MESSAGES], i: usize) -> bool
-    requires { LabelledView b.now unnamed.now i }
+    requires { Labelled b.now unnamed.now × (i < view_count b.now) }
     ensures { result ≡ view_cross (raw b.now) (view_at b.now i) }
 {
     let n = b[0] as usize;
@@ -330,14 +274,7 @@ fn views_cross(b: &[u8], unnamed: &[u8; MESSAGES], m: usize) -> bool
     requires { Labelled b.now unnamed.now × (m ≡ view_count b.now) }
     ensures { result ≡ all (view_cross (raw b.now)) (view_numbers m view_cells b.now) }
 {
-    let mut i = 0;
-    while i < m {
-        if !view_cross(b, unnamed, i) {
-            return false;
-        }
-        i += 1;
-    }
-    true
+    (0..m).all(|i| view_cross(b, unnamed, i))
 }
 
 // "Current view (0, or a formed view that has it)."
@@ -371,14 +308,7 @@ fn recorders_cross(b: &[u8], unnamed: &[u8; MESSAGES], n: usize) -> bool
     requires { Labelled b.now unnamed.now × (n ≡ size_at b.now) }
     ensures { result ≡ all (recorder_cross (raw b.now)) (up_to n) }
 {
-    let mut j = 0;
-    while j < n {
-        if !recorder_cross(b, unnamed, j + 1) {
-            return false;
-        }
-        j += 1;
-    }
-    true
+    (1..=n).all(|r| recorder_cross(b, unnamed, r))
 }
 
 // Not "a row whose votes are all 0" (02, A4): a byte of the votes is not 0.

@@ -1,40 +1,31 @@
--- The invariant: the bytes hold a hall, and are those of a run of the actions passed. Assumes nothing.
-use borrow.Author.Rules.{rules}
-use Prim.Native.Nat.{◌+◌, ◌*◌}
+-- One step more each time, until fewer than four words are left. Assumes nothing.
 use native.Mathlib.Omega.{arith}
-use mathlib.Core.Path.{◌≡◌, refl, ap, ◌∙◌}
-use lib.ListN.{take}
+use borrow.Author.Rules.{rules}
+use lib.ListN.{get_or}
+use Prim.Native.Nat.{◌<◌, ◌^◌}
+use mathlib.Core.Path.{sym, ap, ◌∙◌}
+use Rattle.std.specs.Slice.Iter.{chunks_exact_rest}
 use Rattle.store.specs.StoredForm.{is_stored}
-use Rattle.calls.specs.Calls.{run_on}
-use Rattle.runfile.specs.Answers.{actions_of}
 use Rattle.calls.proofs.HeldSteps.{step-holds}
-use Rattle.bench_api.proofs.Runs.{run-next}
+use Rattle.bench_api.proofs.Runs.{run-next, run-none}
 use Rattle.bench_api.proofs.run.Goals as goal
 
-pub loop-i-init : goal.loop-i-init
-unfolding run_on
-loop-i-init c = (search rules, c.requires.0, refl, refl)
-
 pub step_hall-requires : goal.step_hall-requires
-step_hall-requires c = c.loop-i.invariant.1
+step_hall-requires c = c.loop-w.invariant.0
 
-pub loop-i-preserved : goal.loop-i-preserved
-loop-i-preserved c =
-    let a = c.args in
-    let l = c.loop-i in
-    let vs = a.actions.now in
+pub loop-w-preserved : goal.loop-w-preserved
+loop-w-preserved c =
+    let inv = c.loop-w.invariant in
+    let step = c.in-Some.ensures.steps in
+    let word : get_or c.in-Some.w.now 2 0 < 2 ^ 32 = search rules in
     let e = c.step_hall.ensures.bytes in (
-      search rules,
-      ap is_stored e ∙ step-holds l.hall l.invariant.1 _ (c.type_inv.actions (4 * l.i + 2)).fits,
-      c.step_hall.auto.bytes ∙ l.invariant.2,
-      run-next a.hall.now vs l.i (omega arith) l.hall _ l.invariant.3 e,
+      ap is_stored e ∙ step-holds c.loop-w.hall inv.0 _ word,
+      c.step_hall.auto.bytes ∙ inv.1,
+      step.0 ∙ inv.2,
+      run-next c.loop-w.hall _ _ c.in-Some.w.now (chunks_exact_rest c.next.new.self) step.1.0 (step.1.1 ∙ inv.2) e ∙ inv.3,
     )
-
-pub shape_of-hall : goal.shape_of-hall
-shape_of-hall c = c.loop-i.invariant.2
 
 pub returns : goal.returns
 returns c =
-    let a = c.args in
-    let e : c.loop-i.i ≡ a.c = omega arith in
-    c.loop-i.invariant.3 ∙ ap (λ i. run_on a.hall.now (take i (actions_of a.actions.now))) e
+    let inv = c.loop-w.invariant in
+    sym (run-none c.loop-w.hall _ (omega (arith, inv.2, c.in-None.ensures.steps.1.0))) ∙ inv.3

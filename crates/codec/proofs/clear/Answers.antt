@@ -1,36 +1,14 @@
--- The invariant: the bytes passed are cleared. Assumes nothing.
-use borrow.Author.Rules.{rules}
-use Prim.Native.Nat.{ℕ, ◌-◌}
-use native.Mathlib.Omega.{arith}
-use mathlib.Core.Path.{◌≡◌, ap, sym, ◌∙◌}
-use lib.ListN.{length}
-use lib.Seq.{sets, length-sets}
+-- The bytes are filled with 0. Assumes nothing.
+use Rattle.std.proofs.Common.{◌-◌, ◌≡◌, ◌∙◌, arith, ap}
+use Rattle.std.proofs.lemmas.List.{length-replicate}
 use Rattle.codec.specs.Bytes.{zeros}
-use Rattle.codec.proofs.BytesLaws.{clear_step}
+use Rattle.codec.proofs.BytesLaws.{part-written}
+use Rattle.codec.proofs.PutBack.{part_length}
 use Rattle.codec.proofs.clear.Goals as goal
-
-pub loop-i-init : goal.loop-i-init
-loop-i-init c =
-    let a = c.args in
-    let e : a.from - a.from ≡ 0 = omega arith in
-    (search rules, search rules, ap (λ (n : ℕ). sets a.b.now a.from (zeros n)) (sym e))
-
-pub bounds-b-i : goal.bounds-b-i
-bounds-b-i c = omega (arith, simp length-sets at (ap length c.loop-i.invariant.2))
-
-pub loop-i-preserved : goal.loop-i-preserved
-loop-i-preserved c =
-    let l = c.loop-i in (
-      search rules,
-      search rules,
-      clear_step c.args.b.now c.args.from l.i l.b (search rules) l.invariant.2,
-    )
-
-pub shape_of-b : goal.shape_of-b
-shape_of-b c = ap length c.loop-i.invariant.2 ∙ simp length-sets
 
 pub returns : goal.returns
 returns c =
     let a = c.args in
-    let e : c.loop-i.i ≡ a.to = omega arith in
-    c.loop-i.invariant.2 ∙ ap (λ (j : ℕ). sets a.b.now a.from (zeros (j - a.from))) e
+    let n = a.to - a.from in
+    let filled : c.fill.new.self ≡ zeros n = c.fill.ensures.after (λ y e. e) ∙ ap zeros (part_length a.from n a.b.now (omega arith)) in
+    part-written a.b.now a.from a.to _ (zeros n) filled (length-replicate n 0) c.requires.0 c.requires.1

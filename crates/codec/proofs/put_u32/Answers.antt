@@ -1,22 +1,15 @@
 -- The four bytes stand in the order of the digits. Assumes nothing.
-use native.Mathlib.Omega.{arith}
-use lib.ListN.{length-set}
-use Rattle.codec.proofs.BytesLaws.{sets-four}
+use Rattle.std.proofs.Common.{◌+◌, ◌/◌, ◌≡◌, ◌∙◌, arith}
 use Rattle.codec.specs.Number.{digits}
+use Rattle.codec.proofs.BytesLaws.{part-written}
 use Rattle.codec.proofs.put_u32.Goals as goal
-
-pub bounds-b-at-2 : goal.bounds-b-at-2
-bounds-b-at-2 c = simp length-set (omega arith)
-
-pub bounds-b-at-3 : goal.bounds-b-at-3
-bounds-b-at-3 c = simp length-set (omega arith)
-
-pub bounds-b-at-4 : goal.bounds-b-at-4
-bounds-b-at-4 c = simp length-set (omega arith)
-
-pub shape_of-b : goal.shape_of-b
-shape_of-b c = simp length-set
 
 pub returns : goal.returns
 unfolding digits
-returns c = sets-four c.args.b.now c.args.at _ _ _ _
+returns c =
+    let a = c.args in
+    let third : a.v / 65536 ≡ a.v / 256 / 256 = omega arith in
+    let fourth : a.v / 16777216 ≡ a.v / 256 / 256 / 256 = omega arith in
+    part-written a.b.now a.at (a.at + 4) _ (digits 4 a.v)
+    (c.copy_from_slice.ensures.after ∙ c.to_le_bytes.ensures ∙ rw (third, fourth))
+    (omega arith) (omega arith) c.requires

@@ -13,22 +13,14 @@ unfolding words_bytes
 loop-i-init c = search rules
 
 pub put_u32-requires : goal.put_u32-requires
-put_u32-requires c = omega (arith, simp length-sets at (ap length c.loop-i.invariant.1))
+put_u32-requires c = omega (arith, simp length-sets at (ap length c.loop-i.invariant))
 
 pub loop-i-preserved : goal.loop-i-preserved
 loop-i-preserved c =
-    let a = c.args in
-    let l = c.loop-i in
-    (search rules, put_next a.out.now l.i a.values.now l.out _ (omega arith) l.invariant.1 c.put_u32.ensures)
+    put_next c.args.out.now c.loop-i.i c.args.values.now c.loop-i.out _ (omega arith) c.loop-i.invariant c.put_u32.ensures
 
 pub clear-requires : goal.clear-requires
-clear-requires c = omega (arith, simp length-sets at (ap length c.loop-i.invariant.1))
-
-pub shape_of-out : goal.shape_of-out
-shape_of-out c = omega (arith, simp length-sets at (ap length c.clear.ensures), simp length-sets at (ap length c.loop-i.invariant.1))
+clear-requires c = omega (arith, simp length-sets at (ap length c.loop-i.invariant))
 
 pub returns : goal.returns
-returns c =
-    let a = c.args in
-    let l = c.loop-i in
-    put_rest a.out.now l.i a.values.now l.out _ (omega arith) (omega arith) l.invariant.1 c.clear.ensures
+returns c = put_rest c.args.out.now c.args.values.now c.loop-i.out _ c.loop-i.i (omega arith) c.loop-i.invariant c.clear.ensures

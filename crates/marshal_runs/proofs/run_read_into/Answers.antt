@@ -12,19 +12,19 @@ use Rattle.lent.proofs.Plain.{leaves-as}
 use Rattle.marshal_runs.proofs.Runs.{read_number}
 use Rattle.marshal_runs.proofs.run_read_into.Goals as goal
 
-pub returns-in-Refused : goal.returns-in-Refused
+pub returns-in-Err : goal.returns-in-Err
 unfolding run_read_lent read_meaning read_words
-returns-in-Refused c =
+returns-in-Err c =
     let f = c.args.file.now in
-    let e = read_is c.read_opening-read.ensures c.in-Refused.is in
-    lent-refused (read_words (read_answer f (read_file f))) f f c.args.out.now c.in-Refused.why (sym (ap (λ (z : ReadAnswer). (read_words z).number) e)) (read_number f c.in-Refused.why e)
+    let e = read_is c.read_opening.ensures c.in-Err.is in
+    lent-refused (read_words (read_answer f (read_file f))) f f c.args.out.now c.in-Err.why (sym (ap (λ (z : ReadAnswer). (read_words z).number) e)) (read_number f c.in-Err.why e)
 
-pub returns-in-Opened : goal.returns-in-Opened
+pub returns-in-Ok : goal.returns-in-Ok
 unfolding run_read_lent read_meaning read_words offset_words
-returns-in-Opened c =
+returns-in-Ok c =
     let a = c.args in
-    let o = c.in-Opened.o in
-    let e = read_is c.read_opening-read.ensures c.in-Opened.is in
+    let o = c.in-Ok.o in
+    let e = read_is c.read_opening.ensures c.in-Ok.is in
     leaves-as a.file.now a.out.now
     (ap₂ (λ (low high : ℕ). taken (o.opening.size ∷ o.opening.founders ∷ low ∷ high ∷ o.count ∷ o.opening.third ∷ vote_words o.opening.words)) c.low.ensures c.high.ensures ∙ sym (ap read_words e))
     (c.answer_into.ensures a.file.now)

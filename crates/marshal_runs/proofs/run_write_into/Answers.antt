@@ -16,30 +16,30 @@ returns-then-out-lt-ANSWER c =
     let o = write_file (run_of (file_opening a.o) a.actions.now) a.file.now in
     lent-tried (written_words o.answer) a.file.now o.bytes a.out.now _ (c.try_write.ensures a.file.now) c.if-out-lt-ANSWER.true
 
-pub overflow_cast-values : goal.overflow_cast-values
+pub overflow_cast-length : goal.overflow_cast-length
 unfolding written_meaning
-overflow_cast-values c = omega (arith, write-length _ _ _ (written_is c.write-written.ensures.0 c.in-Bytes.is))
+overflow_cast-length c = omega (arith, write-length _ _ _ (written_is c.write.ensures.0 c.in-Ok.is))
 
-pub returns-in-Refused : goal.returns-in-Refused
+pub returns-in-Err : goal.returns-in-Err
 unfolding run_write_lent written_meaning written_words
-returns-in-Refused c =
+returns-in-Err c =
     let a = c.args in
     let x = run_of (file_opening a.o) a.actions.now in
     let o = write_file x a.file.now in
-    let w = written_is c.write-written.ensures.0 c.in-Refused.is in
-    let r = refused-write x a.file.now c.in-Refused.number w in
-    let l = lent-refused (written_words o.answer) a.file.now o.bytes a.out.now c.in-Refused.number (sym (ap (λ (z : WriteAnswer). (written_words z).number) w)) r.0 in
-    record { number = l.number; bytes = c.write-written.ensures.1 ∙ r.1 ∙ l.bytes; answer = l.answer }
+    let w = written_is c.write.ensures.0 c.in-Err.is in
+    let r = refused-write x a.file.now c.in-Err.number w in
+    let l = lent-refused (written_words o.answer) a.file.now o.bytes a.out.now c.in-Err.number (sym (ap (λ (z : WriteAnswer). (written_words z).number) w)) r.0 in
+    record { number = l.number; bytes = c.write.ensures.1 ∙ r.1 ∙ l.bytes; answer = l.answer }
 
-pub returns-in-Bytes : goal.returns-in-Bytes
+pub returns-in-Ok : goal.returns-in-Ok
 unfolding run_write_lent written_meaning written_words
-returns-in-Bytes c =
+returns-in-Ok c =
     let a = c.args in
     let o = write_file (run_of (file_opening a.o) a.actions.now) a.file.now in
-    let w = written_is c.write-written.ensures.0 c.in-Bytes.is in
+    let w = written_is c.write.ensures.0 c.in-Ok.is in
     let l = lent-done (written_words o.answer) a.file.now o.bytes a.out.now (ap (λ (z : WriteAnswer). (written_words z).number) w) (omega (arith, c.if-out-lt-ANSWER.false)) in
     record {
       number = l.number;
-      bytes = c.write-written.ensures.1 ∙ l.bytes;
+      bytes = c.write.ensures.1 ∙ l.bytes;
       answer = c.put_values.ensures ∙ ap (λ (z : WriteAnswer). with_answer a.out.now (written_words z).values) (sym w) ∙ l.answer;
     }

@@ -4,14 +4,14 @@ use Rattle.runfile.specs.Answers.{file_opening, run_of, written_meaning}
 use Rattle.marshal_runs.proofs.Runs.{written_is, write-nothing, write-tried}
 use Rattle.marshal_runs.proofs.try_write.Goals as goal
 
-pub returns-in-Refused : goal.returns-in-Refused
+pub returns-in-Err : goal.returns-in-Err
 unfolding written_meaning
-returns-in-Refused c =
+returns-in-Err c =
     let a = c.args in
-    λ file. write-tried (run_of (file_opening a.o) a.actions.now) _ file c.in-Refused.why (lit< tt) (written_is c.write-tried.ensures.0 c.in-Refused.is)
+    λ file. write-tried (run_of (file_opening a.o) a.actions.now) _ file c.in-Err.early (lit< tt) (written_is c.write.ensures.0 c.in-Err.is)
 
-pub returns-in-Bytes : goal.returns-in-Bytes
+pub returns-in-Ok : goal.returns-in-Ok
 unfolding written_meaning
-returns-in-Bytes c =
+returns-in-Ok c =
     let a = c.args in
-    absurd (write-nothing (run_of (file_opening a.o) a.actions.now) _ _ (lit< tt) (written_is c.write-tried.ensures.0 c.in-Bytes.is))
+    absurd (write-nothing (run_of (file_opening a.o) a.actions.now) _ _ (lit< tt) (written_is c.write.ensures.0 c.in-Ok.is))

@@ -15,7 +15,7 @@ use Rattle.opening.proofs.OpenedLaws.{start-bytes}
 use Rattle.opening.proofs.start_all.Goals as goal
 
 pub loop-k-init : goal.loop-k-init
-loop-k-init c = (omega arith, refl, λ row rest t e. e)
+loop-k-init c = (refl, λ row rest t e. e)
 
 pub loop-k-preserved : goal.loop-k-preserved
 loop-k-preserved c =
@@ -23,21 +23,18 @@ loop-k-preserved c =
     let set = c.args.set in
     let k = c.loop-k.k in
     let i = c.loop-k.invariant in
-    let l : length c.start.new.b ≡ length c.args.b.now = c.start.auto.b ∙ i.1 in (
-      omega arith,
+    let l : length c.start.new.b ≡ length c.args.b.now = c.start.auto.b ∙ i.0 in (
       l,
       λ row rest t e.
           c.start.ensures n c.loop-k-test.true
-          ∙ ap (λ (z : List ℕ). sets z (recorders_at + k * recorder_size) (recorder_form.encode (start_of n set (k + 1)))) (i.2 row rest t e)
+          ∙ ap (λ (z : List ℕ). sets z (recorders_at + k * recorder_size) (recorder_form.encode (start_of n set (k + 1)))) (i.1 row rest t e)
           ∙ start-bytes n row set t.size (right-row n row t.votes) t.founders.0 t.founders.1 k c.loop-k-test.true rest,
     )
 
 pub shape_of-b : goal.shape_of-b
-shape_of-b c = c.loop-k.invariant.1
+shape_of-b c = c.loop-k.invariant.0
 
 pub returns : goal.returns
 returns c =
     let e : c.loop-k.k ≡ c.args.n = omega arith in
-    λ row rest t f.
-    c.loop-k.invariant.2 row rest t f
-    ∙ ap (λ (j : ℕ). stored (begun c.args.n row c.args.set j) ++ rest) e
+    λ row rest t f. c.loop-k.invariant.1 row rest t f ∙ ap (λ (j : ℕ). stored (begun c.args.n row c.args.set j) ++ rest) e

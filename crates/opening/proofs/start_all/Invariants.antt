@@ -10,8 +10,5 @@ use Rattle.opening.proofs.start_all.Given as goal
 
 abbrev pub invariant-loop-k : goal.invariant-loop-k
 invariant-loop-k l =
-    (l.k ≤ l.n) × (length l.b ≡ length l.initial.b)
+    (length l.b ≡ length l.initial.b)
     × ((row rest : List ℕ) → Taken l.n row l.set l.initial.b → l.initial.b ≡ stored (begun l.n row l.set 0) ++ rest → l.b ≡ stored (begun l.n row l.set l.k) ++ rest)
-
-abbrev pub decreases-loop-k : goal.decreases-loop-k
-decreases-loop-k l = l.n - l.k

@@ -1,5 +1,4 @@
--- `quorum::margin` meets its contract. The loop's invariant: the walk from recorder k on gives the margin, and what is gathered
--- is at most 1,000 for each recorder done. The measure is k. Assumes nothing.
+-- Each turn adds a recorder's votes, and the last walk is the margin. Assumes nothing.
 use Prim.Native.Nat.{ℕ, ◌+◌, ◌-◌, ◌*◌, ◌≤◌}
 use native.Mathlib.Omega.{arith}
 use mathlib.Core.Path.{◌≡◌, sym, ap, ap₂, subst, ◌∙◌}
@@ -12,7 +11,7 @@ use Rattle.quorum.proofs.VoteLaws.{one-walk, walk_turn, small-share, share-most}
 use Rattle.quorum.proofs.margin.Goals as goal
 
 pub loop-k-init : goal.loop-k-init
-loop-k-init c = (one-walk _ _ _ 8 c.requires.0, omega arith, omega arith, omega arith)
+loop-k-init c = record { walked = one-walk _ _ _ 8 c.requires.0; some = omega arith; few = omega arith }
 
 -- a recorder adds at most 1,000 to the hall's votes, and to the set's no more than that
 few : (c : goal.After-share-s) → (c.share-s.result ≤ c.vote-v.result) × (c.vote-v.result ≤ max_vote)
@@ -31,26 +30,15 @@ pub loop-k-preserved : goal.loop-k-preserved
 loop-k-preserved c =
     let a = c.args in
     let l = c.loop-k in
-    let v = c.vote-v.ensures in
-    let s = c.share-s.ensures ∙ ap₂ share c.in_mask.ensures v in
-    let turn : ℕ → ℕ → ℤ = λ x y. walk (row_of a.row.now) a.n (in_mask a.set) (l.k - 1) (l.of_set + x) (l.of_hall + y) in (
-      ap₂ turn s v ∙ sym (walk_turn (row_of a.row.now) a.n (in_mask a.set) l.k l.of_set l.of_hall (omega arith)) ∙ l.invariant.0,
-      omega (arith, few c),
-      omega (arith, few c),
-      omega arith,
-    )
-
-pub overflow_mul-result : goal.overflow_mul-result
-overflow_mul-result c = omega arith
-
-pub overflow_cast-result : goal.overflow_cast-result
-overflow_cast-result c = record { sfits = omega arith }
-
-pub overflow_cast-result-2 : goal.overflow_cast-result-2
-overflow_cast-result-2 c = record { sfits = omega arith }
-
-pub overflow_sub-result : goal.overflow_sub-result
-overflow_sub-result c = read_fits (2 * c.loop-k.of_set) c.loop-k.of_hall (omega arith) (omega arith)
+    let turn : ℕ → ℕ → ℤ = λ x y. walk (row_of a.row.now) a.n (in_mask a.set) (l.k - 1) (l.of_set + x) (l.of_hall + y) in
+    record {
+      walked =
+          ap₂ turn (c.share-s.ensures ∙ ap₂ share c.in_mask.ensures c.vote-v.ensures) c.vote-v.ensures
+          ∙ sym (walk_turn (row_of a.row.now) a.n (in_mask a.set) l.k l.of_set l.of_hall (omega arith))
+          ∙ l.invariant.walked;
+      some = omega (arith, few c);
+      few = omega (arith, few c);
+    }
 
 pub returns : goal.returns
 unfolding walk
@@ -58,7 +46,7 @@ returns c =
     let a = c.args in
     let l = c.loop-k in
     let e : 0 ≡ l.k = omega arith in
-    to_z-of_z (overflow_sub-result c)
+    to_z-of_z (read_fits (2 * l.of_set) l.of_hall (omega arith) (omega arith))
     ∙ read-minus (2 * l.of_set) l.of_hall (omega arith) (omega arith)
     ∙ ap (λ (k : ℕ). walk (row_of a.row.now) a.n (in_mask a.set) k l.of_set l.of_hall) e
-    ∙ l.invariant.0
+    ∙ l.invariant.walked

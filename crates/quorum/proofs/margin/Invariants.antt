@@ -1,5 +1,5 @@
--- `quorum::margin` meets its contract. The loop's invariant: the walk from recorder k on gives the margin, and what is gathered
--- is at most 1,000 for each recorder done. The measure is k. Assumes nothing.
+-- The loop's invariant: the walk from recorder k on gives the margin, and what is gathered is at most 1,000 for each recorder
+-- done. Assumes nothing.
 use Prim.Native.Nat.{◌-◌, ◌*◌, ◌≤◌}
 use mathlib.Core.Path.{◌≡◌}
 use Rattle.quorum.specs.Sets.{in_mask}
@@ -8,7 +8,8 @@ use Rattle.quorum.proofs.margin.Given as goal
 
 abbrev pub invariant-loop-k : goal.invariant-loop-k
 invariant-loop-k l =
-    (walk (row_of l.row) l.n (in_mask l.set) l.k l.of_set l.of_hall ≡ margin (row_of l.row) l.n (in_mask l.set)) × (l.of_set ≤ l.of_hall) × (l.of_hall ≤ (8 - l.k) * max_vote) × (l.k ≤ 8)
-
-abbrev pub decreases-loop-k : goal.decreases-loop-k
-decreases-loop-k l = l.k
+    record {
+      walked : walk (row_of l.row) l.n (in_mask l.set) l.k l.of_set l.of_hall ≡ margin (row_of l.row) l.n (in_mask l.set);
+      some : l.of_set ≤ l.of_hall;
+      few : l.of_hall ≤ (8 - l.k) * max_vote;
+    }

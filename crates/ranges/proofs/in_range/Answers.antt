@@ -23,9 +23,6 @@ returns-then-not-valid_views c =
     (sym c.valid_byte.ensures ∙ c.if-not-valid_byte.false)
     (sym c.valid_views.ensures ∙ c.if-not-valid_views.true))
 
-pub overflow_cast-b : goal.overflow_cast-b
-overflow_cast-b c = omega (arith, c.shared_slice_known-3-1.given 1)
-
 pub valid_tables-requires : goal.valid_tables-requires
 valid_tables-requires c =
     let b = c.args.b.now in

@@ -1,18 +1,14 @@
--- By the count. Assumes nothing.
-use native.Mathlib.Omega.{arith}
-use mathlib.Core.Path.{sym, ◌∙◌}
+-- By the test of a cell. Assumes nothing.
+use borrow.Author.Rules.{rules}
+use mathlib.Core.Path.{◌∙◌}
 use Rattle.model.specs.Hall.{max_queue}
 use Rattle.store.specs.CellForms.{queued_form, queue_form}
-use Rattle.ranges.proofs.Loops.{bounded-over, bounded-within}
+use Rattle.ranges.proofs.Loops.{bounded-by_test}
 use Rattle.ranges.proofs.valid_queue.Goals as goal
-
-pub overflow_cast-m : goal.overflow_cast-m
-overflow_cast-m c = omega (arith, c.shared_slice_known-2-1.given c.args.at)
-
-pub returns-then-m-gt-MAX_QUEUE : goal.returns-then-m-gt-MAX_QUEUE
-unfolding queue_form
-returns-then-m-gt-MAX_QUEUE c = sym (bounded-over queued_form max_queue c.args.at c.args.b.now c.requires c.if-m-gt-MAX_QUEUE.true)
 
 pub returns : goal.returns
 unfolding queue_form
-returns c = c.valid_messages.ensures ∙ sym (bounded-within queued_form max_queue c.args.at c.args.b.now c.requires c.if-m-gt-MAX_QUEUE.false)
+returns c =
+    let a = c.args in
+    c.valid_counted.ensures.value queued_form.valid (λ i r p. search rules)
+    ∙ bounded-by_test queued_form max_queue a.at a.b.now c.requires

@@ -1,4 +1,5 @@
--- Its fields in turn. Assumes nothing.
+-- Its fields in turn; the current view may be any four bytes. Assumes nothing.
+use native.Mathlib.Nat.{add_assoc}
 use native.Mathlib.Omega.{arith}
 use mathlib.Core.Bool.{and_assoc}
 use Rattle.ranges.proofs.Parts.{view-number-part}
@@ -7,7 +8,6 @@ use Rattle.ranges.proofs.valid_recorder.Goals as goal
 
 pub returns : goal.returns
 returns c =
-    let start = c.before.before.before.before.before.before.before in
-    let a = start.args in
-    let any = view-number-part a.at a.b.now (omega (arith, start.requires)) (λ i. (c.shared_slice_known-1.given i).fits) in
-    simp and_assoc (cc (simp any at (recorder-part a.at a.b.now)))
+    let a = c.args in
+    let any = view-number-part a.at a.b.now (omega (arith, c.requires)) (λ i. (c.type_inv.b i).fits) in
+    simp and_assoc (cc (simp add_assoc at (simp any at (recorder-part a.at a.b.now))))

@@ -4,11 +4,11 @@ use mathlib.Core.Path.{sym, ◌∙◌}
 use Rattle.ranges.proofs.CellPartsLaws.{sent-none, sent-some, sent-over}
 use Rattle.ranges.proofs.valid_sent.Goals as goal
 
-pub returns-then-count-eq0 : goal.returns-then-count-eq0
-returns-then-count-eq0 c = c.is_zero.ensures ∙ sym (sent-none c.args.at c.args.b.now c.requires c.if-count-eq0.true)
+pub returns-in-0 : goal.returns-in-0
+returns-in-0 c = c.is_zero.ensures ∙ sym (sent-none c.args.at c.args.b.now c.requires c.in-0.is)
 
-pub returns-then-count-eq1 : goal.returns-then-count-eq1
-returns-then-count-eq1 c = c.valid_summary.ensures ∙ sym (sent-some c.args.at c.args.b.now c.requires c.if-count-eq1.true)
+pub returns-in-1 : goal.returns-in-1
+returns-in-1 c = c.valid_summary.ensures ∙ sym (sent-some c.args.at c.args.b.now c.requires c.in-1.is)
 
-pub returns : goal.returns
-returns c = sym (sent-over c.args.at c.args.b.now c.requires (omega (arith, c.if-count-eq0.false, c.if-count-eq1.false)))
+pub returns-in_default : goal.returns-in_default
+returns-in_default c = sym (sent-over c.args.at c.args.b.now c.requires (omega (arith, c.in_default)))

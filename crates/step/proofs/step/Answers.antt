@@ -1,13 +1,19 @@
--- `step::step` meets its contract. Assumes nothing.
+-- 11 and 31, then the kind. Assumes nothing.
+use mathlib.Core.Path.{refl, ap, subst, ◌∙◌}
+use Rattle.model.specs.Answers.{plain}
+use Rattle.model.specs.Call.{words_of}
+use Rattle.calls.specs.Calls.{step_on}
+use Rattle.calls.specs.Steps.{Steps}
 use Rattle.step.proofs.StepsLaws as steps
 use Rattle.step.proofs.step.Goals as goal
 
-pub returns-then-why-ne0 : goal.returns-then-why-ne0
-returns-then-why-ne0 c =
+pub returns-in_err-kind : goal.returns-in_err-kind
+returns-in_err-kind c =
     let a = c.args in
-    steps.early-refused a.bytes.now a.k a.r a.a a.b _ c.early_refusal-why.ensures c.if-why-ne0.true
+    steps.refused a.bytes.now a.k a.r a.a a.b _ (steps.early-is a.bytes.now a.k a.r a.a a.b _ c.in_err-kind.ensures.number) _ refl c.from_residual.result c.from_residual.ensures.1
 
-pub step_hall-requires : goal.step_hall-requires
-step_hall-requires c =
-    let a = c.args in
-    steps.early-passed a.bytes.now a.k a.r a.a a.b _ c.early_refusal-why.ensures c.if-why-ne0.false
+pub step_kind-requires : goal.step_kind-requires
+step_kind-requires c = steps.early-passed _ _ c.in_ok-kind.ensures.number
+
+pub returns : goal.returns
+returns c = subst (λ j. Steps c.args.bytes.now j c.args.r c.args.a c.args.b _ _) c.in_ok-kind.ensures.kind c.step_kind.ensures

@@ -1,23 +1,18 @@
--- `step::step_hall` meets its contract. Assumes nothing.
+-- 11, then the kind. Assumes nothing.
+use mathlib.Core.Path.{ap, subst, ◌∙◌}
+use Rattle.model.specs.Answers.{plain}
+use Rattle.model.specs.Call.{words_of}
+use Rattle.model.specs.RefusalNumbers.{number}
+use Rattle.calls.specs.Calls.{step_on}
+use Rattle.calls.specs.Steps.{Steps}
 use Rattle.step.proofs.StepsLaws as steps
 use Rattle.step.proofs.step_hall.Goals as goal
 
-pub returns-then-why-ne0 : goal.returns-then-why-ne0
-returns-then-why-ne0 c =
-    let s = c in
-    let a = s.args in
-    steps.word-refused a.bytes.now a.k a.r a.a a.b s.requires _ _ c.size.ensures.value c.word_refusal-why.ensures c.if-why-ne0.true
-
-pub act-requires : goal.act-requires
-act-requires c =
-    let s = c in
-    let a = s.args in
-    let j = steps.word-judged a.bytes.now a.k a.r a.a a.b s.requires _ _ c.size.ensures.value c.word_refusal-why.ensures c.if-why-ne0.false in
-    (j.0, j.1.0, j.1.1)
+pub returns-in_err-kind : goal.returns-in_err-kind
+returns-in_err-kind c =
+    let a = c.args in
+    let e = c.in_err-kind.ensures in
+    steps.refused a.bytes.now a.k a.r a.a a.b 11 (steps.kind-is a.bytes.now a.k a.r a.a a.b e.0) _ (ap number e.1) c.from_residual.result c.from_residual.ensures.1
 
 pub returns : goal.returns
-returns c =
-    let s = c in
-    let a = s.args in
-    let j = steps.word-judged a.bytes.now a.k a.r a.a a.b s.requires _ _ c.size.ensures.value c.word_refusal-why.ensures c.if-why-ne0.false in
-    steps.acted a.bytes.now a.k a.r a.a a.b j.1.0 j.1.1 s.requires _ _ j.0 c.act.ensures
+returns c = subst (λ j. Steps c.args.bytes.now j c.args.r c.args.a c.args.b _ _) c.in_ok-kind.ensures.1 c.step_kind.ensures

@@ -1,38 +1,31 @@
--- The invariant: `any` is 0 just where the keys passed are others. Assumes nothing.
+-- What is gathered is 0 just where each key before it is another. Assumes nothing.
 use borrow.Author.Rules.{rules}
-use Prim.Native.Nat.{ℕ, ◌+◌, ◌-◌}
+use Prim.Native.Nat.{ℕ}
 use native.Mathlib.Omega.{arith}
-use mathlib.Core.Path.{◌≡◌, sym, ap, ap₂, ◌∙◌}
-use mathlib.Core.Bool.{not, ◌&&◌}
+use mathlib.Core.Path.{◌≡◌, ap, ◌∙◌}
+use mathlib.Core.Bool.{Bool, not, ◌&&◌}
+use lib.Bits.{bit_or}
 use lib.Dec.{eqb}
-use lib.ListN.{get_or}
-use Rattle.base.specs.Numbers.{up_to}
-use Rattle.base.specs.Lists.{all}
+use lib.ListN.{get_or, take}
+use Rattle.std.proofs.iter.Yields.{fronts, slice_gives}
+use Rattle.base.specs.Lists.{bit, all}
 use Rattle.codec.proofs.Gathering.{or-zero}
 use Rattle.validity.specs.CrossParts.{key_alone}
-use Rattle.validity.proofs.AllsLaws.{all_none, all-step}
-use Rattle.validity.proofs.key_alone.Invariants.{apart_from}
+use Rattle.validity.proofs.ChainLaws.{gathered, all-take}
+use Rattle.validity.proofs.MarksLaws.{bit-zero}
 use Rattle.validity.proofs.key_alone.Goals as goal
-
-pub loop-j-init : goal.loop-j-init
-loop-j-init c = (search rules, sym (all_none (apart_from c.args.keys.now c.args.i)))
-
-pub loop-j-preserved : goal.loop-j-preserved
-loop-j-preserved c =
-    let a = c.args in
-    let l = c.loop-j in
-    let ks = a.keys.now in
-    let e : l.j ≡ l.j + 1 - 1 = omega arith in (
-      search rules,
-      or-zero l.any c.same-any.result
-          ∙ ap₂ ◌&&◌ l.invariant.1 (c.same-any.ensures ∙ ap (λ (n : ℕ). not (eqb (get_or ks n 0) (get_or ks a.i 0))) e)
-          ∙ sym (all-step (apart_from ks a.i) l.j),
-    )
 
 pub returns : goal.returns
 unfolding key_alone
 returns c =
-    let a = c.args in
-    let l = c.loop-j in
-    let e : l.j ≡ a.i = omega arith in
-    l.invariant.1 ∙ ap (λ (n : ℕ). all (apart_from a.keys.now a.i) (up_to n)) e
+    let ks = c.args.keys.now in
+    let key : ℕ = get_or ks c.args.i 0 in
+    let t : ℕ → Bool = λ x. not (eqb x key) in
+    let r : c.iter.result.rest.now ≡ take c.args.i ks = search rules in
+    gathered fronts (λ y. y.now) _ _ t _ _ c.fold.result (slice_gives c.iter.result)
+    (λ a x z h k.
+    let e : z ≡ bit_or a (bit (eqb x.now key)) = search rules in
+    (ap (λ n. eqb n 0) e ∙ or-zero a (bit (eqb x.now key)) ∙ ap (λ (v : Bool). eqb a 0 && v) (bit-zero (eqb x.now key)), search rules))
+    c.fold.ensures.ran
+    ∙ ap (all t) r
+    ∙ all-take t ks c.args.i (omega (arith, c.requires, c.fits-keys))

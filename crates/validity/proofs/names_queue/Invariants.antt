@@ -16,6 +16,3 @@ invariant-loop-j l =
     (l.j ≤ get_or l.b (queues_at + l.i * queue_size) 0) × (get_or l.b (queues_at + l.i * queue_size) 0 ≤ max_queue)
     × (queue_names (raw l.b) (view_at l.b l.i) ((raw l.b).service.queue (view_at l.b l.i))
     ≡ queue_names (raw l.b) (view_at l.b l.i) (decode_all queued_form (get_or l.b (queues_at + l.i * queue_size) 0 - l.j) (drop (queues_at + l.i * queue_size + 1 + l.j * queued_size) l.b)))
-
-abbrev pub decreases-loop-j : goal.decreases-loop-j
-decreases-loop-j l = get_or l.b (queues_at + l.i * queue_size) 0 - l.j

@@ -11,6 +11,3 @@ use Rattle.validity.proofs.unnamed_of.Given as goal
 abbrev pub invariant-loop-i : goal.invariant-loop-i
 invariant-loop-i l =
     (l.i ≤ l.m) × (l.m ≤ max_entries) × (length l.unnamed ≡ 2 * byte_values) × ((sent : Bool) (x : ℕ) → message_marked l.unnamed sent x ≡ passed_mark l.b l.i sent x)
-
-abbrev pub decreases-loop-i : goal.decreases-loop-i
-decreases-loop-i l = l.m - l.i
