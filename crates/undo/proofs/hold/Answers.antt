@@ -6,6 +6,7 @@ use mathlib.Core.List.{List}
 use lib.Seq.{sets}
 use Rattle.codec.proofs.NumberLaws.{digits-byte}
 use Rattle.model.specs.Call.{words_of}
+use Rattle.model.specs.KindNumbers.{kind_number}
 use Rattle.undo.specs.Parts.{slot_of}
 use Rattle.undo.proofs.PartsCover.{accepted-small, slot_ok}
 use Rattle.undo.proofs.Rooms.{long-enough}
@@ -26,7 +27,7 @@ returns c =
     let start = c in
     let a = start.args in
     let b = a.b.now in
-    let w = words_of a.k a.r a.a a.d in
+    let w = words_of (kind_number a.k) a.r a.a a.d in
     let p = start.requires.1 in
     let low = accepted-small b p.holds w p.low p.accepts in
     let room = c.make_room-n in

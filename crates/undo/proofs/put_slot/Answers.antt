@@ -5,6 +5,7 @@ use mathlib.Core.Path.{ap, ap₂, ◌∙◌}
 use mathlib.Core.List.{List}
 use lib.Seq.{sets}
 use Rattle.model.specs.Call.{words_of}
+use Rattle.model.specs.KindNumbers.{kind_number}
 use Rattle.store.specs.Layout.{recorder_size, endpoint_size}
 use Rattle.store.proofs.StoredFormLaws.{is_stored-long}
 use Rattle.undo.specs.Buffer.{part_form}
@@ -24,8 +25,8 @@ put_part-requires c =
     let at = ap (λ (q : Places). q.first.offset) e in record {
       room_le_recorder_size = (omega arith, omega (arith, start.requires.1, c.put_words.auto.u));
       size_le_room = (
-        omega (arith, size, (parts-small b p.holds (words_of a.k a.r a.a a.d) p.low).0),
-        omega (arith, size, at, (parts-inside b p.holds (words_of a.k a.r a.a a.d) p.low).0),
+        omega (arith, size, (parts-small b p.holds (words_of (kind_number a.k) a.r a.a a.d) p.low).0),
+        omega (arith, size, at, (parts-inside b p.holds (words_of (kind_number a.k) a.r a.a a.d) p.low).0),
         is_stored-long b p.holds,
       );
     }
@@ -41,8 +42,8 @@ put_part-requires-2 c =
     let at = ap (λ (q : Places). q.second.offset) e in record {
       room_le_recorder_size = (omega arith, omega (arith, start.requires.1, c.put_words.auto.u, c.put_part.auto.u));
       size_le_room = (
-        omega (arith, size, (parts-small b p.holds (words_of a.k a.r a.a a.d) p.low).1),
-        omega (arith, size, at, (parts-inside b p.holds (words_of a.k a.r a.a a.d) p.low).1),
+        omega (arith, size, (parts-small b p.holds (words_of (kind_number a.k) a.r a.a a.d) p.low).1),
+        omega (arith, size, at, (parts-inside b p.holds (words_of (kind_number a.k) a.r a.a a.d) p.low).1),
         is_stored-long b p.holds,
       );
     }
@@ -53,7 +54,7 @@ returns c =
     let start = c in
     let a = start.args in
     let b = a.b.now in
-    let w = words_of a.k a.r a.a a.d in
+    let w = words_of (kind_number a.k) a.r a.a a.d in
     let p = start.requires.0 in
     let e = c.parts_of-p.ensures in
     let low = accepted-small b p.holds w p.low p.accepts in
