@@ -34,7 +34,7 @@ use Rattle.pieces.specs.declared.Recorder.{Recorder}
 use Rattle.pieces.specs.Recorders.{recorder_of}
 use Rattle.hall.specs.Acts.{Judged}
 use Rattle.hall.specs.AtRecorder.{recorder_in}
-use Rattle.hall.specs.Parts.{HasRecorder, Placed}
+use Rattle.hall.specs.Parts.{HasRecorder}
 use Rattle.hall.proofs.Acting.{acts, current-placed, view-read}
 use Rattle.hall.proofs.ReadsLaws.{recorder-most}
 use Rattle.undo.specs.Parts.{alone, in_current, waiting_index, places_of, parts}
@@ -71,7 +71,10 @@ module _ (b : List ℕ) (r : ℕ) where
   by-found None f s m less = (m ∙ none-waits (sym f), omega (arith, m))
   by-found (Some e) f s m less = (less e m ∙ waits-at e (sym f), omega (arith, less e m, waits-high e (sym f) s))
 
--- ## A view's index
+-- ## A recorder, and its view
+
+pub recorder_range : {b : List ℕ} {r : ℕ} → HasRecorder b r → (1 ≤ r) × (r ≤ max_recorders)
+recorder_range p = (p.low, recorder-most p)
 
 -- a formed view, found at index i
 pub formed-within : {b : List ℕ} {r : ℕ} → HasRecorder b r → (g i : ℕ) → has (hall_of b).service.created g ≡ true
@@ -79,13 +82,14 @@ pub formed-within : {b : List ℕ} {r : ℕ} → HasRecorder b r → (g i : ℕ)
 formed-within {b} p g i formed at =
     omega (arith, at, index-lt (hall_of b).service.created g formed, (hall_of-valid b p.holds).in_range.views.at_most)
 
--- R's current view, found at index i by what is read of R
-pub current-found : {b : List ℕ} {r : ℕ} (p : HasRecorder b r) → ((hall_of b).service.current r ≡ 0 → ⊥)
-    → (x : Recorder) → recorder_of x ≡ recorder_in b r → (i : ℕ) → i ≡ index_of (hall_of b).service.created x.current
-    → Placed b r ((hall_of b).service.current r) i
-current-found {b} {r} p ne x k i at =
-    current-placed b p.holds r ((hall_of b).service.current r) i refl ne
-    (at ∙ ap (index_of (hall_of b).service.created) (view-read p (recorder_of x) k))
+-- R's current view by what is read of R: it is formed
+pub current-read : {b : List ℕ} {r : ℕ} → HasRecorder b r → ((hall_of b).service.current r ≡ 0 → ⊥)
+    → (x : Recorder) → recorder_of x ≡ recorder_in b r
+    → (has (hall_of b).service.created x.current ≡ true) × (x.current ≡ (hall_of b).service.current r)
+current-read {b} {r} p ne x k =
+    let e = view-read p (recorder_of x) k in
+    let formed = (current-placed b p.holds r ((hall_of b).service.current r) _ refl ne refl).formed in
+    (subst (λ g. has (hall_of b).service.created g ≡ true) (sym e) formed, e)
 
 -- ## An accepted action's kind
 
@@ -109,8 +113,7 @@ pub record InCurrent (b : List ℕ) (w : Words) : Type 0 where
 module _ {b : List ℕ} {w : Words} {κ : Kind} (used : (uses κ).r ≡ Use.recorder) (o : OfKind b w κ) where
   by-alone : places_of (hall_of b) κ w.r w.a ≡ alone w.r → Alone b w
   by-alone same =
-      let h = acts used o.judged in
-      record { range = (h.low, recorder-most h); places = sym same ∙ o.places }
+      record { range = recorder_range (acts used o.judged); places = sym same ∙ o.places }
 
   by-current : (state_refusal hl3 (hall_of b) κ w.r w.a ≡ 0 → InView (hall_of b) w.r w.a)
       → places_of (hall_of b) κ w.r w.a ≡ in_current (hall_of b) w.r → InCurrent b w

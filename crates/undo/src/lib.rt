@@ -18,7 +18,7 @@ ghost use Rattle.store.specs.StoredForm.{hall_of, is_stored};
 ghost use Rattle.hall.specs.Parts.{HasRecorder};
 ghost use Rattle.undo.specs.Buffer.{Slot, part_size, words_size, slot_size, max_slots, undo_length};
 ghost use Rattle.undo.specs.Buffer.{part_form, words_form, slot_form, is_undo, held_in, newest_of, pushed, popped, put_back};
-ghost use Rattle.undo.specs.Parts.{entry_grown, view_grown, in_label, in_current, alone, in_queue, waiting_index};
+ghost use Rattle.undo.specs.Parts.{place_at, both, recorder_place, endpoint_place, in_label, in_current, alone, in_queue, waiting_index};
 ghost use Rattle.undo.specs.Parts.{parts, part_of, slot_of};
 ghost use Rattle.undo.specs.Code.{place_in, places_in, action_of, Accepts, RoomMade, Holding, NewestAt, PartFits, part_back};
 
@@ -101,6 +101,41 @@ struct Place {
     size: usize,
 }
 
+impl Place {
+    // The cell at an index of a table: where the table's cells begin, and the size of each.
+    fn cell(cells: usize, size: usize, i: usize) -> Place
+        requires { cells + i * size ≤ stored_length }
+        ensures { place_in result ≡ place_at (cells + i * size) size }
+    {
+        Place {
+            offset: cells + i * size,
+            size,
+        }
+    }
+
+    // Recorder r.
+    fn recorder(r: u32) -> Place
+        requires { (1 ≤ r) × (r ≤ max_recorders) }
+        ensures { place_in result ≡ recorder_place r }
+    {
+        Place {
+            offset: recorder_at(r),
+            size: layout::RECORDER,
+        }
+    }
+
+    // Recorder r's place in view g.
+    fn endpoint(b: &[u8], r: u32, g: u32) -> Place
+        requires { HasRecorder b.now r × (has (hall_of b.now).service.created g ≡ true) }
+        ensures { place_in result ≡ endpoint_place (hall_of b.now) r g }
+    {
+        Place {
+            offset: endpoint_at(r, find_view(b, g)),
+            size: layout::ENDPOINT,
+        }
+    }
+}
+
 // The two parts of a hall's bytes that an action writes.
 #[derive(Clone, Copy)]
 struct Parts {
@@ -108,35 +143,15 @@ struct Parts {
     second: Place,
 }
 
-// 1: the new entry's cell, and the count of entries.
-fn new_entry(b: &[u8]) -> Parts
-    requires { is_stored b.now ≡ true }
-    ensures { places_in result ≡ entry_grown (hall_of b.now) }
+// 1 and 5: the cell behind the n in use of a table of cells, and the byte where they are counted.
+fn grown(cells: usize, size: usize, n: usize, counted: usize) -> Parts
+    requires { cells + n * size ≤ stored_length }
+    ensures { places_in result ≡ both (place_at (cells + n * size) size) (place_at counted 1) }
 {
     Parts {
-        first: Place {
-            offset: layout::ENTRIES + entry_count(b) * layout::ENTRY,
-            size: layout::ENTRY,
-        },
+        first: Place::cell(cells, size, n),
         second: Place {
-            offset: layout::ENTRY_COUNT,
-            size: 1,
-        },
-    }
-}
-
-// 5: the new view's cell, and the count of views.
-fn new_view(b: &[u8]) -> Parts
-    requires { is_stored b.now ≡ true }
-    ensures { places_in result ≡ view_grown (hall_of b.now) }
-{
-    Parts {
-        first: Place {
-            offset: layout::VIEWS + view_count(b) * layout::VIEW,
-            size: layout::VIEW,
-        },
-        second: Place {
-            offset: layout::VIEW_COUNT,
+            offset: counted,
             size: 1,
         },
     }
@@ -156,16 +171,9 @@ fn recorder_and_entry(b: &[u8], r: u32) -> Parts
     requires { HasRecorder b.now r }
     ensures { places_in result ≡ in_label (hall_of b.now) r }
 {
-    let i = waiting_index(b, r);
     Parts {
-        first: Place {
-            offset: recorder_at(r),
-            size: layout::RECORDER,
-        },
-        second: Place {
-            offset: layout::ENTRIES + i * layout::ENTRY,
-            size: layout::ENTRY,
-        },
+        first: Place::recorder(r),
+        second: Place::cell(layout::ENTRIES, layout::ENTRY, waiting_index(b, r)),
     }
 }
 
@@ -174,17 +182,9 @@ fn recorder_and_endpoint(b: &[u8], r: u32) -> Parts
     requires { HasRecorder b.now r × ((hall_of b.now).service.current r ≡ 0 → ⊥) }
     ensures { places_in result ≡ in_current (hall_of b.now) r }
 {
-    let x = read_recorder(b, r);
-    let i = find_view(b, x.current);
     Parts {
-        first: Place {
-            offset: recorder_at(r),
-            size: layout::RECORDER,
-        },
-        second: Place {
-            offset: endpoint_at(r, i),
-            size: layout::ENDPOINT,
-        },
+        first: Place::recorder(r),
+        second: Place::endpoint(b, r, read_recorder(b, r).current),
     }
 }
 
@@ -194,10 +194,7 @@ fn recorder_alone(r: u32) -> Parts
     ensures { places_in result ≡ alone r }
 {
     Parts {
-        first: Place {
-            offset: recorder_at(r),
-            size: layout::RECORDER,
-        },
+        first: Place::recorder(r),
         second: Place { offset: 0, size: 0 },
     }
 }
@@ -207,16 +204,9 @@ fn queue_and_endpoint(b: &[u8], r: u32, a: u32) -> Parts
     requires { HasRecorder b.now r × (has (hall_of b.now).service.created a ≡ true) }
     ensures { places_in result ≡ in_queue (hall_of b.now) r a }
 {
-    let i = find_view(b, a);
     Parts {
-        first: Place {
-            offset: layout::QUEUES + i * layout::QUEUE,
-            size: layout::QUEUE,
-        },
-        second: Place {
-            offset: endpoint_at(r, i),
-            size: layout::ENDPOINT,
-        },
+        first: Place::cell(layout::QUEUES, layout::QUEUE, find_view(b, a)),
+        second: Place::endpoint(b, r, a),
     }
 }
 
@@ -226,12 +216,22 @@ fn parts_of(b: &[u8], k: Kind, r: u32, a: u32, d: u32) -> Parts
     ensures { places_in result ≡ parts b.now (words_of (kind_number k) r a d) }
 {
     match k {
-        Kind::Submit => new_entry(b),
+        Kind::Submit => grown(
+            layout::ENTRIES,
+            layout::ENTRY,
+            entry_count(b),
+            layout::ENTRY_COUNT,
+        ),
         Kind::Label => recorder_and_entry(b, r),
         Kind::SendEntry | Kind::SendSummary | Kind::Receive | Kind::Notice => recorder_and_endpoint(
             b, r,
         ),
-        Kind::Form => new_view(b),
+        Kind::Form => grown(
+            layout::VIEWS,
+            layout::VIEW,
+            view_count(b),
+            layout::VIEW_COUNT,
+        ),
         Kind::Enter | Kind::Confirm | Kind::Deliver => recorder_alone(r),
         Kind::Place => queue_and_endpoint(b, r, a),
     }

@@ -19,10 +19,6 @@ recorder_alone-requires c = (alone-kinds c.args.k c.requires c.in-Enter.is).rang
 pub queue_and_endpoint-requires : goal.queue_and_endpoint-requires
 queue_and_endpoint-requires c = place-view c.args.k c.requires c.in-Place.is
 
-pub returns-in-Submit : goal.returns-in-Submit
-unfolding places_of
-returns-in-Submit c = c.new_entry.ensures ∙ (of-kind c.args.k c.requires Submit c.in-Submit.is).places
-
 pub returns-in-Label : goal.returns-in-Label
 unfolding places_of
 returns-in-Label c = c.recorder_and_entry.ensures ∙ (of-kind c.args.k c.requires Label c.in-Label.is).places
@@ -30,13 +26,17 @@ returns-in-Label c = c.recorder_and_entry.ensures ∙ (of-kind c.args.k c.requir
 pub returns-in-SendEntry : goal.returns-in-SendEntry
 returns-in-SendEntry c = c.recorder_and_endpoint.ensures ∙ (current-kinds c.args.k c.requires c.in-SendEntry.is).places
 
-pub returns-in-Form : goal.returns-in-Form
-unfolding places_of
-returns-in-Form c = c.new_view.ensures ∙ (of-kind c.args.k c.requires Form c.in-Form.is).places
-
 pub returns-in-Enter : goal.returns-in-Enter
 returns-in-Enter c = c.recorder_alone.ensures ∙ (alone-kinds c.args.k c.requires c.in-Enter.is).places
 
 pub returns-in-Place : goal.returns-in-Place
 unfolding places_of
 returns-in-Place c = c.queue_and_endpoint.ensures ∙ (of-kind c.args.k c.requires Place c.in-Place.is).places
+
+pub returns-in-Submit : goal.returns-in-Submit
+unfolding places_of
+returns-in-Submit c = c.grown.ensures ∙ rw c.entry_count.ensures.value (of-kind c.args.k c.requires Submit c.in-Submit.is).places
+
+pub returns-in-Form : goal.returns-in-Form
+unfolding places_of
+returns-in-Form c = c.grown-in-Form.ensures ∙ rw c.view_count.ensures.value (of-kind c.args.k c.requires Form c.in-Form.is).places

@@ -15,11 +15,10 @@ use Rattle.undo.proofs.put_part.Goals as goal
 
 pub returns : goal.returns
 returns c =
-    let start = c in
-    let a = start.args in
+    let a = c.args in
     let b = a.b.now in
     let k : Bytes b = λ i. (c.type_inv.b i).fits in
-    let inside : a.p.offset + a.p.size ≤ length b = omega (arith, start.requires.size_le_room.1) in
+    let inside : a.p.offset + a.p.size ≤ length b = omega (arith, c.requires.size_le_room.1) in
     c.clear.ensures
     ∙ ap (λ (z : List ℕ). sets z (a.at + 8 + a.p.size) (zeros (a.at + 8 + a.room - (a.at + 8 + a.p.size))))
     (c.copy_bytes.ensures

@@ -16,14 +16,13 @@ use Rattle.undo.proofs.put_slot.Goals as goal
 
 pub put_part-requires : goal.put_part-requires
 put_part-requires c =
-    let start = c in
-    let a = start.args in
+    let a = c.args in
     let b = a.b.now in
-    let p = start.requires.0 in
+    let p = c.requires.0 in
     let e = c.parts_of-p.ensures in
     let size = ap (λ (q : Places). q.first.size) e in
     let at = ap (λ (q : Places). q.first.offset) e in record {
-      room_le_recorder_size = (omega arith, omega (arith, start.requires.1, c.put_words.auto.u));
+      room_le_recorder_size = (omega arith, omega (arith, c.requires.1, c.put_words.auto.u));
       size_le_room = (
         omega (arith, size, (parts-small b p.holds (words_of (kind_number a.k) a.r a.a a.d) p.low).0),
         omega (arith, size, at, (parts-inside b p.holds (words_of (kind_number a.k) a.r a.a a.d) p.low).0),
@@ -33,14 +32,13 @@ put_part-requires c =
 
 pub put_part-requires-2 : goal.put_part-requires-2
 put_part-requires-2 c =
-    let start = c in
-    let a = start.args in
+    let a = c.args in
     let b = a.b.now in
-    let p = start.requires.0 in
+    let p = c.requires.0 in
     let e = c.parts_of-p.ensures in
     let size = ap (λ (q : Places). q.second.size) e in
     let at = ap (λ (q : Places). q.second.offset) e in record {
-      room_le_recorder_size = (omega arith, omega (arith, start.requires.1, c.put_words.auto.u, c.put_part.auto.u));
+      room_le_recorder_size = (omega arith, omega (arith, c.requires.1, c.put_words.auto.u, c.put_part.auto.u));
       size_le_room = (
         omega (arith, size, (parts-small b p.holds (words_of (kind_number a.k) a.r a.a a.d) p.low).1),
         omega (arith, size, at, (parts-inside b p.holds (words_of (kind_number a.k) a.r a.a a.d) p.low).1),
@@ -51,11 +49,10 @@ put_part-requires-2 c =
 pub returns : goal.returns
 unfolding slot_of
 returns c =
-    let start = c in
-    let a = start.args in
+    let a = c.args in
     let b = a.b.now in
     let w = words_of (kind_number a.k) a.r a.a a.d in
-    let p = start.requires.0 in
+    let p = c.requires.0 in
     let e = c.parts_of-p.ensures in
     let low = accepted-small b p.holds w p.low p.accepts in
     c.put_part-2.ensures
