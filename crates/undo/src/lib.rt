@@ -74,7 +74,7 @@ fn valid_slots(u: &[u8], m: usize) -> bool
     (0..m).all(|i| valid_slot(u, 1 + i * SLOT)) && is_zero(u, 1 + m * SLOT, LENGTH)
 }
 
-// Is the slice an undo buffer?
+// Is the slice an undo buffer? The bytes are the caller's (docs/undo-buffer.md): this stands in contracts, not in a type.
 pub fn is_undo(u: &[u8]) -> bool
     ensures { result ≡ is_undo u.now }
 {

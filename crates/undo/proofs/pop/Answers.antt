@@ -11,12 +11,6 @@ use Rattle.undo.proofs.BufferLaws.{held-slots}
 use Rattle.undo.proofs.Rooms.{long-enough, pops}
 use Rattle.undo.proofs.pop.Goals as goal
 
-pub count-n-requires : goal.count-n-requires
-count-n-requires c = c.requires.form
-
-pub overflow_sub-n : goal.overflow_sub-n
-overflow_sub-n c = omega (arith, c.count-n.ensures.value, c.requires.some)
-
 pub clear-requires : goal.clear-requires
 clear-requires c =
     let u = c.args.u.now in

@@ -9,9 +9,6 @@ use Rattle.undo.proofs.SlotAt.{second_at, first_fits, second_fits, both-back}
 use Rattle.undo.proofs.Rooms.{some_same}
 use Rattle.undo.proofs.put_back.Goals as goal
 
-pub newest_at-at-requires : goal.newest_at-at-requires
-newest_at-at-requires c = c.requires.0
-
 pub put_part_back-requires : goal.put_part_back-requires
 put_part_back-requires c =
     let at = c.newest_at-at in

@@ -15,7 +15,6 @@ returns-then-offset-size-le-LENGTH c =
     let a = c.args in
     let u = a.u.now in
     let size = sym c.get_u32-size.ensures in
-    let offset = sym c.get_u32-offset.ensures in
     elim c.if-size-room.branch [
       | then-size-room w ↦
           c.is_zero.ensures

@@ -7,6 +7,3 @@ endpoint_at-requires c =
     let p = c.requires in
     let range = recorder_range p.0 in
     (range.0, range.1, formed-within p.0 c.args.g _ p.1 c.find_view.ensures.value)
-
-pub returns : goal.returns
-returns c = rw (c.endpoint_at.ensures, c.find_view.ensures.value)
