@@ -141,6 +141,7 @@ fn valid_summary(b: &[u8], at: usize) -> bool
 }
 
 // "At most one sent summary": a count, and the summary or zeros.
+// By cases for speed: as a counted table of one place, a hall of 32 views takes a fifth longer to check.
 fn valid_sent(b: &[u8], at: usize) -> bool
     requires { at + sent_size ≤ length b.now }
     ensures { result ≡ sent_form.valid (part at sent_size b.now) }
