@@ -43,11 +43,9 @@ fn put_message(out: &mut [u8], at: usize, m: Message) -> usize
     ensures { Wrote out.old at (answer_text (message m.source (content_meaning m.content)))
         out.new result }
 {
-    let source = m.source;
-    let content = m.content;
-    match content {
+    match m.content {
         Content::Entry(e) => put_entry(out, at, e),
-        Content::Summary(s) => put_summary(out, at, source, s),
+        Content::Summary(s) => put_summary(out, at, m.source, s),
     }
 }
 
@@ -123,14 +121,12 @@ pub fn put_hall_line(out: &mut [u8], at: usize, n: u32) -> usize
 fn message_len(m: Message) -> usize
     ensures { Sized (answer_text (message m.source (content_meaning m.content))) max_answer result }
 {
-    let source = m.source;
-    let content = m.content;
-    match content {
+    match m.content {
         Content::Entry(e) => 6
             + text::label_len(e.view, e.seq, e.sender)
             + text::last_len(e.payload.value),
         Content::Summary(s) => {
-            let first = 9 + text::decimal_len(source);
+            let first = 9 + text::decimal_len(m.source);
             let counts = 2 + text::decimal_len(s.known) + text::decimal_len(s.order);
             first + counts + text::last_two_len(s.confirm, s.high)
         }
