@@ -130,6 +130,7 @@ pub fn all_in(b: &[u8], from: usize, to: usize, lo: u8, hi: u8) -> bool
 
 // A list of at most 72 bytes: the first `len` of `places`. Where it is stored it has a capacity of its own,
 // which may be less.
+// An array and a length, since there is no heap: as 01 has a queue, "handled by value as an array [empty; 72] with a length".
 #[derive(Clone, Copy)]
 pub struct ByteList {
     pub places: [u8; ByteList::CAPACITY],
