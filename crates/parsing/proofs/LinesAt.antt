@@ -12,7 +12,7 @@ use Rattle.std.specs.Bool.{then_some}
 use Rattle.base.specs.Lists.{rest, is_empty}
 use Rattle.codec.specs.Bytes.{part, same_bytes}
 use Rattle.codec.proofs.BytesLaws.{same_refl}
-use Rattle.model.specs.Kinds.{Kind, last_kind, kind_of, no_kind, kinds, Uses, uses}
+use Rattle.model.specs.Kinds.{Kind, last_kind, kind_of, kinds, Uses, uses}
 use Rattle.model.proofs.KindLaws.{names-kind}
 use Rattle.model.specs.Call.{Words, words_of}
 use Rattle.words.specs.Words.{kind_at, use_of}
@@ -340,10 +340,6 @@ module _ (k : ℕ) (fs : List (List ℕ)) (h : k ≡ hall_number → ⊥) (r : k
       let named = names-kind k low high in
       let at : kind_at k ≡ named.0 = rw (named.1, kind_at) in
       rw (ne_eqb k hall_number h, line_from, ne_eqb k raw_number r, named.1) (ap (λ (κ : Kind). kind_line k (uses κ) fs) (sym at))
-
-  pub line-none : kind_of k ≡ no_kind → line_from k fs ≡ wrong 0
-  unfolding line_from
-  line-none e = rw (ne_eqb k hall_number h, line_from, ne_eqb k raw_number r, e)
 
 pub line-blank : (bs : List ℕ) → is_empty (fields_in bs) ≡ true → line_of bs ≡ blank
 unfolding line_of

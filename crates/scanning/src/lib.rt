@@ -153,7 +153,7 @@ pub enum FirstWord {
     Other,
 }
 
-// Numbers of the words that a line begins with, beside those of the kinds.
+// Numbers of the words beside those of the kinds: numbers, since the answer for a wrong line has them (`story.Parsing.line_of`).
 const RAW: u32 = 254;
 
 const HALL: u32 = 255;
