@@ -1,9 +1,10 @@
 -- How many values an answer has. Assumes nothing.
 use mathlib.Core.Path.{◌≡◌, refl}
+use Rattle.std.specs.Prelude.{ℕ, Result, Ok, Err}
 use lib.ListN.{length}
 use Rattle.model.specs.Answers.{Content, Answer, message, refused, plain}
 use Rattle.model.specs.Page.{PageAnswer, plain_page}
-use Rattle.answer.specs.declared.Settled.{Settled}
+use Rattle.model.specs.declared.refusals.Refusal.{Refusal}
 use Rattle.answer.specs.Meaning.{settled_meaning}
 
 pub page-values : (x : PageAnswer) → length (plain_page x).values ≡ 13
@@ -19,7 +20,6 @@ answer-values (message q (Content.summary k o c g)) = refl
 answer-values (Answer.from q v) = refl
 answer-values (refused k) = refl
 
-pub settled-values : (x : Settled) → length (settled_meaning x).values ≡ 1
-unfolding settled_meaning
-settled-values (Settled.Count n) = refl
-settled-values (Settled.Refused k) = refl
+pub settled-values : (x : Result ℕ Refusal) → length (settled_meaning x).values ≡ 1
+settled-values (Ok n) = refl
+settled-values (Err why) = refl
