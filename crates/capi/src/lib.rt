@@ -23,7 +23,7 @@ use marshal::{page_into, settle_held_into, settle_into, step_held_into, step_int
 use marshal_runs::{run_action_into, run_read_into, run_write_into};
 use marshal_text::{list_into, parse_line_into, print_action_into, print_opening_into};
 use opening::open;
-use runfile::{FileOpening, Votes};
+use runfile::FileOpening;
 use step::bytes_refusal;
 use stepback::step_back;
 use store::layout;
@@ -182,21 +182,11 @@ fn opening_of(
     ensures { file_opening result
         ≡ opening_with n founders third (v1 ∷ v2 ∷ v3 ∷ v4 ∷ v5 ∷ v6 ∷ v7 ∷ v8 ∷ []) }
 {
-    let words = Votes {
-        v1,
-        v2,
-        v3,
-        v4,
-        v5,
-        v6,
-        v7,
-        v8,
-    };
     FileOpening {
         size: n,
         founders,
         third,
-        words,
+        words: [v1, v2, v3, v4, v5, v6, v7, v8],
     }
 }
 

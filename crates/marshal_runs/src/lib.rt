@@ -24,7 +24,7 @@ pub fn run_read_into(file: &[u8], out: &mut [u8]) -> u32
         Err(why) => why,
         Ok(o) => {
             let x = o.opening;
-            let v = x.words;
+            let [v1, v2, v3, v4, v5, v6, v7, v8] = x.words;
             let values = [
                 x.size,
                 x.founders,
@@ -32,14 +32,14 @@ pub fn run_read_into(file: &[u8], out: &mut [u8]) -> u32
                 high(o.start),
                 o.count,
                 x.third,
-                v.v1,
-                v.v2,
-                v.v3,
-                v.v4,
-                v.v5,
-                v.v6,
-                v.v7,
-                v.v8,
+                v1,
+                v2,
+                v3,
+                v4,
+                v5,
+                v6,
+                v7,
+                v8,
             ];
             answer_into(out, &values)
         }

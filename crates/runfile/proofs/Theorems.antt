@@ -16,7 +16,7 @@ use Rattle.model.specs.Opening.{open_refusal}
 use Rattle.model.specs.Call.{Words, words_of}
 use Rattle.model.specs.RunFile.{FileOpening, opening_in, max_file, max_actions, opening_length, distance, block_at, block_bytes, blocks_at, blocks_bytes, opening_at, opening_bytes, RunText, trailer_of, run_part, broken_file, read_text, Reading, read_refusal, read_file, file_bytes, WriteAnswer, write_file}
 use Rattle.runfile.specs.declared.FileOpening as Code
-use Rattle.runfile.specs.Answers.{vote_words, file_opening, trailer_for, rest_zero, actions_of, run_of}
+use Rattle.runfile.specs.Answers.{file_opening, trailer_for, rest_zero, actions_of, run_of}
 use Rattle.runfile.specs.InRange.{Bytes, Small, SmallRun, opening_read, as_read}
 use Rattle.runfile.proofs.Blocks.{bytes_drop, length-block_bytes, length-blocks_bytes, length-blocks_at, bytes-block, block-bytes, bytes-blocks, blocks-bytes}
 use Rattle.runfile.proofs.Openings.{fits, few, least, head, length-opening_bytes, block-is, bytes-opening, same-opening, opening-bytes}
@@ -168,12 +168,12 @@ module _ (x : RunText) (s : SmallRun x) (third : x.opening.third ≤ 1) (many : 
       ∙ ap (λ (ws : List Words). record { opening = opening_read o; actions = ws }) acts
 
 -- the words that an opening and a slice of 32-bit words hold
-pub small-run : (o : Code.FileOpening) (ws : List ℕ) → o.size < 2 ^ 32 → o.founders < 2 ^ 32
-    → ((i : ℕ) → get_or (vote_words o.words) i 0 < 2 ^ 32) → ((i : ℕ) → get_or ws i 0 < 2 ^ 32) → SmallRun (run_of (file_opening o) ws)
+pub small-run : (o : Code.FileOpening) (ws : List ℕ) → length o.words ≡ 8 → o.size < 2 ^ 32 → o.founders < 2 ^ 32
+    → ((i : ℕ) → get_or o.words i 0 < 2 ^ 32) → ((i : ℕ) → get_or ws i 0 < 2 ^ 32) → SmallRun (run_of (file_opening o) ws)
 unfolding actions_of
-small-run o ws h k v s =
+small-run o ws n h k v s =
     record {
-      opening = record { size = h; founders = k; words = λ e. each (vote_words o.words) v; eight = λ e. refl };
+      opening = record { size = h; founders = k; words = λ e. each o.words v; eight = λ e. n };
       actions = all ws s;
     }
   where

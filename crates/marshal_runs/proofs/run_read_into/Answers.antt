@@ -1,10 +1,13 @@
 -- `marshal_runs::run_read_into` meets its contract. Assumes nothing.
 use Prim.Native.Nat.{ℕ}
-use mathlib.Core.Path.{sym, ap, ap₂, ◌∙◌}
-use mathlib.Core.List.{◌∷◌}
+use borrow.Author.Rules.{rules}
+use lib.ListN.{length}
+use mathlib.Core.Path.{◌≡◌, sym, ap, ap₂, ◌∙◌}
+use mathlib.Core.List.{List, ◌∷◌}
 use Rattle.model.specs.RunFile.{ReadAnswer, read_file, read_answer}
-use Rattle.runfile.specs.Answers.{vote_words, read_meaning}
+use Rattle.runfile.specs.Answers.{read_meaning}
 use Rattle.runfile.proofs.Cases.{read_is}
+use Rattle.runfile.proofs.WriteLaws.{eight}
 use Rattle.calls.specs.Lent.{taken}
 use Rattle.calls.specs.RunsLent.{offset_words, read_words, run_read_lent}
 use Rattle.calls.proofs.Refused.{lent-refused}
@@ -25,6 +28,8 @@ returns-in-Ok c =
     let a = c.args in
     let o = c.in-Ok.o in
     let e = read_is c.read_opening.ensures c.in-Ok.is in
+    let n : length o.opening.words ≡ 8 = search rules in
     leaves-as a.file.now a.out.now
-    (ap₂ (λ (low high : ℕ). taken (o.opening.size ∷ o.opening.founders ∷ low ∷ high ∷ o.count ∷ o.opening.third ∷ vote_words o.opening.words)) c.low.ensures c.high.ensures ∙ sym (ap read_words e))
+    (ap (λ (ws : List ℕ). taken (o.opening.size ∷ o.opening.founders ∷ c.low.result ∷ c.high.result ∷ o.count ∷ o.opening.third ∷ ws)) (sym (eight o.opening.words n))
+    ∙ ap₂ (λ (low high : ℕ). taken (o.opening.size ∷ o.opening.founders ∷ low ∷ high ∷ o.count ∷ o.opening.third ∷ o.opening.words)) c.low.ensures c.high.ensures ∙ sym (ap read_words e))
     (c.answer_into.ensures a.file.now)
