@@ -1,7 +1,7 @@
 pub mod BuiltLaws
 pub mod Full
 pub mod Lists
-pub mod Ranges
+pub mod ChainLaws
 pub mod SourcesLaws
 pub mod LabelsLaws
 pub mod RowsLaws

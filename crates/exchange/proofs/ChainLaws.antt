@@ -1,8 +1,9 @@
--- What `(1..=n).all(f)` tells, where the closure f answers t and is left as it was. Assumes nothing.
+-- What `all` over the numbers 1 to n comes to. Assumes nothing.
 use Prim.Native.Nat.{ℕ, ◌+◌, ◌-◌, ◌<◌}
 use native.Mathlib.Omega.{arith}
-use mathlib.Core.Path.{◌≡◌, sym, ap, subst, ◌∙◌}
-use mathlib.Core.Bool.{Bool, true, false, false≢true}
+use mathlib.Core.Path.{◌≡◌, refl, sym, ap, ap₂, subst, ◌∙◌}
+use mathlib.Core.Bool.{Bool, true, false, not, ◌&&◌, false≢true}
+use mathlib.Core.List.{List, [], ◌∷◌}
 use denote.Param.Members.{Mut}
 use Rattle.std.specs.Prelude.{Option, None, Some, IfSome, IsSomeAnd, IsTrue, MatchBool}
 use Rattle.std.specs.Option.{option_map}
@@ -11,11 +12,29 @@ use Rattle.std.specs.Iterator.Runs.{Run, SomeRun, ItemsCountUp, AllItemsGive, An
 use Rattle.std.specs.declared.ops.RangeInclusive.{RangeInclusive}
 use Rattle.std.specs.Range.{range_inclusive_start, range_inclusive_end, range_inclusive_exhausted}
 use Rattle.std.proofs.iter.runs.Sources.{nat_range_inclusive_steps, inclusive_listed}
-use Rattle.base.specs.Lists.{all}
+use Rattle.base.specs.Lists.{filter, all}
 use Rattle.base.specs.Numbers.{up_to}
 use Rattle.base.proofs.Bools.{by_cases}
-use Rattle.base.proofs.ListsLaws.{all-has, has_all}
+use Rattle.base.proofs.ListsLaws.{all-has, has_all, filter-in, filter-out}
 use Rattle.base.proofs.NumbersLaws.{up_to-range, has-up_to}
+
+-- the elements of a list that q takes pass p, where none is taken that fails p
+pub all-filter : (q p : ℕ → Bool) (xs : List ℕ) → all (λ k. not (q k && not (p k))) xs ≡ all p (filter q xs)
+unfolding all filter
+all-filter q p [] = refl
+all-filter q p (x ∷ xs) =
+    by_cases (q x)
+    (λ t. ap rest t ∙ ap₂ ◌&&◌ (twice (p x)) (all-filter q p xs) ∙ sym (ap (all p) (filter-in q x xs t)))
+    (λ f. ap rest f ∙ all-filter q p xs ∙ sym (ap (all p) (filter-out q x xs f)))
+  where
+    rest : Bool → Bool
+    rest t = not (t && not (p x)) && all (λ k. not (q k && not (p k))) xs
+
+    twice : (t : Bool) → not (not t) ≡ t
+    twice true = refl
+    twice false = refl
+
+-- ## `(1..=n).all(f)`, where the closure f answers t and is left as it was
 
 abbrev back : Option ℕ → ℕ
 back None = 0
