@@ -2,7 +2,7 @@
 use Prim.Native.Nat.{ℕ, zero, suc, ◌+◌, ◌-◌, ◌≤◌, ◌<◌}
 use native.Mathlib.Omega.{arith}
 use native.Mathlib.Nat.{add-zero, add-suc, suc-add}
-use native.Mathlib.Numerals.{add-one, add-two, add-three}
+use native.Mathlib.Numerals.{add-one}
 use mathlib.Core.Path.{◌≡◌, refl, sym, ap, ap₂, ◌∙◌}
 use mathlib.Core.Bool.{Bool, true, ◌&&◌, and-eq-true_iff, true≢false}
 use mathlib.Core.List.{List, [], ◌∷◌, ◌++◌, append_assoc}
@@ -69,10 +69,6 @@ sets-append l o (x ∷ xs) ys = rw (add-suc, ← suc-add) (sets-append (set l o 
 
 pub sets-snoc : (l : List ℕ) (o i : ℕ) (xs : List ℕ) (x : ℕ) → o + length xs ≡ i → set (sets l o xs) i x ≡ sets l o (xs ++ (x ∷ []))
 sets-snoc l o i xs x h = ap (λ (j : ℕ). set (sets l o xs) j x) (sym h) ∙ sym (sets-append l o xs (x ∷ []))
-
-pub sets-four : (l : List ℕ) (o w x y z : ℕ)
-    → set (set (set (set l o w) (o + 1) x) (o + 2) y) (o + 3) z ≡ sets l o (w ∷ x ∷ y ∷ z ∷ [])
-sets-four l o w x y z = rw (add-one, add-two, add-three)
 
 -- the first n bytes of s put in at o
 pub paste-sets : (b : List ℕ) (o : ℕ) (s : List ℕ) (n : ℕ) → o + n ≤ length b → n ≤ length s → paste b o s n ≡ sets b o (take n s)

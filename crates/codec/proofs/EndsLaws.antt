@@ -1,7 +1,7 @@
 -- Laws of specs/Ends. Assumes nothing.
-use Prim.Native.Nat.{ℕ, zero, suc, ◌-◌, ◌<◌}
+use Prim.Native.Nat.{ℕ, zero, suc, ◌<◌}
 use native.Mathlib.Omega.{arith}
-use mathlib.Core.Path.{◌≡◌, refl, sym, ap, ◌∙◌}
+use mathlib.Core.Path.{◌≡◌, refl, sym, ap}
 use mathlib.Core.List.{List, [], ◌∷◌}
 use mathlib.Core.Option.{none, some}
 use lib.ListN.{length, get_or, take, drop}
@@ -22,18 +22,6 @@ module _ (l : ByteList) (full : length l.places ≡ list_capacity) where
       go [] n h k = absurd (omega arith)
       go (x ∷ xs) zero h k = absurd (omega arith)
       go (x ∷ xs) (suc n) h k = refl
-
--- without the first byte: the later ones, one place earlier
-pub popped : (xs : List ℕ) (n : ℕ) → 0 < n → take (n - 1) (drop 1 xs) ≡ drop 1 (take n xs)
-popped xs zero h = absurd (omega arith)
-popped [] (suc n) h = let e : suc n - 1 ≡ n = omega arith in ap (λ (m : ℕ). take m []) e ∙ none-taken n
-  where
-    none-taken : (n : ℕ) → ◌≡◌ {A = List ℕ} (take n []) []
-    none-taken zero = refl
-    none-taken (suc n) = refl
-popped (x ∷ xs) (suc n) h =
-    let e : suc n - 1 ≡ n = omega arith in
-    ap (λ (m : ℕ). take m xs) e
 
 -- ## What the first element tells of the list
 

@@ -35,7 +35,7 @@ pub fn or(a: bool, b: bool) -> bool
 pub fn flag_byte(t: bool) -> u8
     ensures { result ≡ bit t }
 {
-    t as u8
+    u8::from(t)
 }
 
 // The byte at an offset.
@@ -130,6 +130,7 @@ pub fn all_in(b: &[u8], from: usize, to: usize, lo: u8, hi: u8) -> bool
 
 // A list of at most 72 bytes: the first `len` of `places`. Where it is stored it has a capacity of its own,
 // which may be less.
+// An array and a length, since there is no heap: as 01 has a queue, "handled by value as an array [empty; 72] with a length".
 #[derive(Clone, Copy)]
 pub struct ByteList {
     pub places: [u8; ByteList::CAPACITY],
@@ -148,7 +149,7 @@ pub fn get_list(b: &[u8], at: usize) -> ByteList
 {
     let n = b[at] as usize;
     let from = at + 1;
-    let mut places = [0u8; ByteList::CAPACITY];
+    let mut places = [0; ByteList::CAPACITY];
     places[..n].copy_from_slice(&b[from..from + n]);
     ByteList { places, len: n }
 }
@@ -159,10 +160,9 @@ pub fn put_list(b: &mut [u8], at: usize, cap: usize, l: ByteList)
     ensures { b.new ≡ sets b.old at (list_bytes cap (items l)) }
 {
     let n = l.len;
-    let places = l.places;
     let from = at + 1;
     b[at] = n as u8;
-    put_bytes(b, from, &places, n);
+    put_bytes(b, from, &l.places, n);
     clear(b, from + n, from + cap);
 }
 
@@ -172,16 +172,8 @@ pub fn valid_list(b: &[u8], at: usize, cap: usize, lo: u8, hi: u8) -> bool
     ensures { result ≡ (bounded (byte lo hi) cap).valid (part at (1 + cap) b.now) }
 {
     let n = b[at] as usize;
-    if cap < n {
-        return false;
-    }
     let from = at + 1;
-    let end = from + n;
-    if all_in(b, from, end, lo, hi) {
-        is_zero(b, end, from + cap)
-    } else {
-        false
-    }
+    n <= cap && all_in(b, from, from + n, lo, hi) && is_zero(b, from + n, from + cap)
 }
 
 // How many bytes a list has.
@@ -206,9 +198,10 @@ pub fn first_of(l: ByteList) -> Option<u8>
     ensures { found_of result ≡ first_of (items l) }
 {
     if l.len == 0 {
-        return None;
+        None
+    } else {
+        Some(l.places[0])
     }
-    Some(l.places[0])
 }
 
 // A list without its first byte.

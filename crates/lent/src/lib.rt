@@ -7,7 +7,7 @@ ghost use Rattle.std.specs.Prelude.{◌≡◌, List, ℕ, ◌≤◌, ◌*◌, �
 ghost use Rattle.calls.specs.Lent.{answer_length, with_answer, taken, lent_call, Leaves};
 
 use codec::{clear, put_u32};
-use model::refusal_numbers;
+use model::refusals::Refusal;
 
 // How long an answer's slice is at least.
 pub const ANSWER: usize = 64;
@@ -30,7 +30,7 @@ pub fn answer_into(out: &mut [u8], values: &[u32]) -> u32
         → Leaves (lent_call (taken values.now) h h out.old) result h out.new }
 {
     if out.len() < ANSWER {
-        return refusal_numbers::SHORT;
+        return u32::from(Refusal::Short);
     }
     put_values(out, values);
     0

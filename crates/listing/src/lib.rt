@@ -6,13 +6,15 @@
 ghost use Rattle.std.specs.Prelude.{[], ◌∷◌};
 ghost use Rattle.model.specs.Payloads.{payload_meaning};
 ghost use Rattle.model.specs.Answers.{message};
+ghost use Rattle.model.specs.RefusalNumbers.{number};
 ghost use Rattle.model.specs.Listing.{decimal, line, action_line, end_line, refused_line, hall-word};
-ghost use Rattle.answer.specs.Meaning.{meaning, content_meaning};
+ghost use Rattle.answer.specs.Meaning.{taken, meaning, content_meaning};
 ghost use Rattle.text.specs.Text.{Room, Wrote, Sized};
 ghost use Rattle.listing.specs.Lines.{answer_text, entry_text, summary_text, sent_text, refusal_text};
 ghost use Rattle.listing.specs.Lines.{kind_only, max_answer, max_line};
 
 use answer::{Answer, Content, EntryPart, Message, Sent, SummaryCounts};
+use model::refusals::Refusal;
 
 // "`entry` gives view.sequence.sender and value"
 fn put_entry(out: &mut [u8], at: usize, e: EntryPart) -> usize
@@ -43,11 +45,9 @@ fn put_message(out: &mut [u8], at: usize, m: Message) -> usize
     ensures { Wrote out.old at (answer_text (message m.source (content_meaning m.content)))
         out.new result }
 {
-    let source = m.source;
-    let content = m.content;
-    match content {
+    match m.content {
         Content::Entry(e) => put_entry(out, at, e),
-        Content::Summary(s) => put_summary(out, at, source, s),
+        Content::Summary(s) => put_summary(out, at, m.source, s),
     }
 }
 
@@ -61,29 +61,45 @@ fn put_sent(out: &mut [u8], at: usize, s: Sent) -> usize
     text::put_last_two(out, next, s.sender, s.payload.value)
 }
 
-fn put_refusal(out: &mut [u8], at: usize, k: u32) -> usize
-    requires { Room out.old at (refusal_text k) }
-    ensures { Wrote out.old at (refusal_text k) out.new result }
+fn put_refusal(out: &mut [u8], at: usize, why: Refusal) -> usize
+    requires { Room out.old at (refusal_text (number why)) }
+    ensures { Wrote out.old at (refusal_text (number why)) out.new result }
 {
     let next = text::put_field(out, at, b"refused");
-    text::put_last(out, next, k)
+    text::put_last(out, next, u32::from(why))
 }
 
-// An answer to the end of its line.
-fn put_answer(out: &mut [u8], at: usize, a: Answer) -> usize
-    requires { Room out.old at (answer_text (meaning a)) }
-    ensures { Wrote out.old at (answer_text (meaning a)) out.new result }
+// The answer of an action that is taken, to the end of its line.
+fn put_taken(out: &mut [u8], at: usize, a: Answer) -> usize
+    requires { Room out.old at (answer_text (taken a)) }
+    ensures { Wrote out.old at (answer_text (taken a)) out.new result }
 {
     match a {
         Answer::Done => text::put_word(out, at, b" ok\n"),
         Answer::Message(m) => put_message(out, at, m),
         Answer::From(s) => put_sent(out, at, s),
-        Answer::Refused(k) => put_refusal(out, at, k),
+    }
+}
+
+// An answer to the end of its line.
+fn put_answer(out: &mut [u8], at: usize, a: Result<Answer, Refusal>) -> usize
+    requires { Room out.old at (answer_text (meaning a)) }
+    ensures { Wrote out.old at (answer_text (meaning a)) out.new result }
+{
+    match a {
+        Ok(x) => put_taken(out, at, x),
+        Err(why) => put_refusal(out, at, why),
     }
 }
 
 // "per action its place, kind and answer"
-pub fn put_action_line(out: &mut [u8], at: usize, place: u32, kind: u32, a: Answer) -> usize
+pub fn put_action_line(
+    out: &mut [u8],
+    at: usize,
+    place: u32,
+    kind: u32,
+    a: Result<Answer, Refusal>,
+) -> usize
     requires { Room out.old at (action_line place (kind_only kind) (meaning a)) }
     ensures { Wrote out.old at (action_line place (kind_only kind) (meaning a)) out.new result }
 {
@@ -123,32 +139,38 @@ pub fn put_hall_line(out: &mut [u8], at: usize, n: u32) -> usize
 fn message_len(m: Message) -> usize
     ensures { Sized (answer_text (message m.source (content_meaning m.content))) max_answer result }
 {
-    let source = m.source;
-    let content = m.content;
-    match content {
+    match m.content {
         Content::Entry(e) => 6
             + text::label_len(e.view, e.seq, e.sender)
             + text::last_len(e.payload.value),
         Content::Summary(s) => {
-            let first = 9 + text::decimal_len(source);
+            let first = 9 + text::decimal_len(m.source);
             let counts = 2 + text::decimal_len(s.known) + text::decimal_len(s.order);
             first + counts + text::last_two_len(s.confirm, s.high)
         }
     }
 }
 
-fn answer_len(a: Answer) -> usize
-    ensures { Sized (answer_text (meaning a)) max_answer result }
+fn taken_len(a: Answer) -> usize
+    ensures { Sized (answer_text (taken a)) max_answer result }
 {
     match a {
         Answer::Done => 4,
         Answer::Message(m) => message_len(m),
         Answer::From(s) => 5 + text::last_two_len(s.sender, s.payload.value),
-        Answer::Refused(k) => 8 + text::last_len(k),
     }
 }
 
-pub fn action_line_len(place: u32, kind: u32, a: Answer) -> usize
+fn answer_len(a: Result<Answer, Refusal>) -> usize
+    ensures { Sized (answer_text (meaning a)) max_answer result }
+{
+    match a {
+        Ok(x) => taken_len(x),
+        Err(why) => 8 + text::last_len(u32::from(why)),
+    }
+}
+
+pub fn action_line_len(place: u32, kind: u32, a: Result<Answer, Refusal>) -> usize
     ensures { Sized (action_line place (kind_only kind) (meaning a)) max_line result }
 {
     text::decimal_len(place) + 1 + text::decimal_len(kind) + answer_len(a)

@@ -7,6 +7,7 @@ ghost use Rattle.std.specs.Prelude.{◌≡◌};
 ghost use Rattle.base.specs.Chains.{◌⨾◌};
 ghost use Rattle.model.specs.Answers as model;
 ghost use Rattle.model.specs.Call.{words_of};
+ghost use Rattle.model.specs.RefusalNumbers.{refused_by};
 ghost use Rattle.calls.specs.Calls.{step_on, settle_on};
 ghost use Rattle.calls.specs.Lent.{step_lent, page_lent, settle_lent, Leaves};
 ghost use Rattle.stepback.specs.Held.{bench_of, step_held_on, settle_held_on};
@@ -14,7 +15,7 @@ ghost use Rattle.stepback.specs.Lent.{step_held_lent, settle_held_lent, LeavesHe
 
 use answer::{plain, plain_page, plain_settled};
 use lent::{ANSWER, answer_into, put_values};
-use model::refusal_numbers;
+use model::refusals::Refusal;
 use page::page;
 use settling::{settle, settle_refusal};
 use step::{refusal, step};
@@ -34,10 +35,13 @@ pub fn page_into(hall: &[u8], r: u32, k: u32, out: &mut [u8]) -> u32
 }
 
 // A call's number, or 18 where it is taken: there is no room for its answer.
-fn or_no_room(number: u32) -> u32
-    ensures { result ≡ number ⨾ 18 }
+fn or_no_room<T: Drop>(x: Result<T, Refusal>) -> u32
+    ensures { result ≡ refused_by x ⨾ 18 }
 {
-    if number == 0 { refusal_numbers::SHORT } else { number }
+    match x {
+        Ok(_) => u32::from(Refusal::Short),
+        Err(why) => u32::from(why),
+    }
 }
 
 // The number of a step whose answer has no room: nothing is performed.

@@ -35,8 +35,7 @@ pub fn list_into(file: &[u8], hall: &mut [u8], text: &mut [u8], out: &mut [u8]) 
         return listed.number;
     }
     let length = listed.len as u32;
-    let values = [length];
-    put_values(out, &values);
+    put_values(out, &[length]);
     0
 }
 
@@ -57,11 +56,9 @@ fn put_line(x: Printed, text: &mut [u8], out: &mut [u8]) -> u32
     if room < ANSWER {
         return refusal_numbers::SHORT;
     }
-    let line = x.bytes;
-    put_bytes(text, 0, &line, len);
+    put_bytes(text, 0, &x.bytes, len);
     let size = len as u32;
-    let values = [size];
-    put_values(out, &values);
+    put_values(out, &[size]);
     0
 }
 
@@ -81,7 +78,7 @@ pub fn print_opening_into(o: FileOpening, text: &mut [u8], out: &mut [u8]) -> u3
     put_line(print_opening(o), text, out)
 }
 
-// Which case a line is.
+// Which case a line is: numbers, since C reads them (`hall_parse_line`; `story.Lent.line_words` holds them).
 const BLANK: u32 = 0;
 
 const OPENING: u32 = 1;
@@ -96,10 +93,7 @@ fn line_into(line: Line, next: usize, out: &mut [u8]) -> u32
         (lent_call (taken (line_words (line_meaning line) next)) h h out.old) result h out.new }
 {
     match line {
-        Line::Blank => {
-            let values = [BLANK, low(next), high(next)];
-            answer_into(out, &values)
-        }
+        Line::Blank => answer_into(out, &[BLANK, low(next), high(next)]),
         Line::Opening(o) => {
             let v = o.words;
             let values = [
@@ -120,14 +114,8 @@ fn line_into(line: Line, next: usize, out: &mut [u8]) -> u32
             ];
             answer_into(out, &values)
         }
-        Line::Action(x) => {
-            let values = [ACTION, low(next), high(next), x.k, x.r, x.a, x.b];
-            answer_into(out, &values)
-        }
-        Line::Wrong(k) => {
-            let values = [WRONG, low(next), high(next), k];
-            answer_into(out, &values)
-        }
+        Line::Action(x) => answer_into(out, &[ACTION, low(next), high(next), x.k, x.r, x.a, x.b]),
+        Line::Wrong(k) => answer_into(out, &[WRONG, low(next), high(next), k]),
     }
 }
 
@@ -137,6 +125,5 @@ pub fn parse_line_into(text: &[u8], at: usize, out: &mut [u8]) -> u32
         result text.now out.new }
 {
     let read = parse_line(text, at);
-    let line = read.line;
-    line_into(line, read.next, out)
+    line_into(read.line, read.next, out)
 }

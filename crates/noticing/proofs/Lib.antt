@@ -1,3 +1,4 @@
 pub mod ReadsLaws
 pub mod NoticesLaws
 pub mod ValuesLaws
+pub mod ChainLaws

@@ -1,7 +1,6 @@
 -- Laws of the text of a set. Assumes nothing.
-use Prim.Native.Nat.{ℕ, zero, suc, ◌+◌, ◌-◌, ◌*◌, ◌%◌, ◌^◌, ◌≤◌, ◌<◌}
+use Prim.Native.Nat.{ℕ, zero, suc, ◌+◌, ◌-◌, ◌*◌, ◌%◌, ◌^◌, ◌≤◌}
 use native.Mathlib.Omega.{arith}
-use native.Mathlib.Numerals.{add-one}
 use native.Mathlib.Nat.{add-zero, add-suc}
 use mathlib.Core.Path.{◌≡◌, sym, ap, subst, ◌∙◌}
 use mathlib.Core.Bool.{Bool, true, false}
@@ -39,9 +38,11 @@ module _ (m i : ℕ) where
 
 -- ## The members, one after the other
 
-pub members-next : (m i : ℕ) → members_text m (i + 1) ≡ members_text m i ++ member_text m (i + 1)
+pub members-upto : (m i : ℕ) → 1 ≤ i → members_text m i ≡ members_text m (i - 1) ++ member_text m i
 unfolding members_text
-members-next m i = rw add-one
+members-upto m i h =
+    let e : i ≡ suc (i - 1) = omega arith in
+    ap (members_text m) e ∙ ap (λ (k : ℕ). members_text m (i - 1) ++ member_text m k) (sym e)
 
 longer : (m i d : ℕ) → length (members_text m i) ≤ length (members_text m (i + d))
 unfolding members_text
@@ -50,15 +51,15 @@ longer m i (suc d) =
     rw (add-suc i d, members_text) (omega (arith, length-append (members_text m (i + d)) (member_text m (suc (i + d))), longer m i d))
 
 -- the next one has room
-pub member-room : {b a : List ℕ} {o n : ℕ} (m i : ℕ) → i < 8 → Room b o (members_text m 8) → Wrote b o (members_text m i) a n
-    → Room a n (member_text m (i + 1))
-member-room m i h r w =
-    let whole : i + 1 + (7 - i) ≡ 8 = omega arith in
-    let next : length (members_text m (i + 1)) ≡ length (members_text m i) + length (member_text m (i + 1)) =
-    ap length (members-next m i) ∙ length-append (members_text m i) (member_text m (i + 1))
+pub member-room : {b a : List ℕ} {o n : ℕ} (m i : ℕ) → 1 ≤ i → i ≤ 8 → Room b o (members_text m 8) → Wrote b o (members_text m (i - 1)) a n
+    → Room a n (member_text m i)
+member-room m i low high r w =
+    let whole : i + (8 - i) ≡ 8 = omega arith in
+    let next : length (members_text m i) ≡ length (members_text m (i - 1)) + length (member_text m i) =
+    ap length (members-upto m i low) ∙ length-append (members_text m (i - 1)) (member_text m i)
     in
-    let most : length (members_text m (i + 1)) ≤ length (members_text m 8) =
-    subst (λ (k : ℕ). length (members_text m (i + 1)) ≤ length (members_text m k)) whole (longer m (i + 1) (7 - i))
+    let most : length (members_text m i) ≤ length (members_text m 8) =
+    subst (λ (k : ℕ). length (members_text m i) ≤ length (members_text m k)) whole (longer m i (8 - i))
     in
     record { fits = omega (arith, r.fits, w.next, wrote-length w) }
 

@@ -65,10 +65,8 @@ fn put_members(out: &mut [u8], at: usize, m: u32) -> usize
     ensures { Wrote out.old at (members_text m 8) out.new result }
 {
     let mut next = at;
-    let mut i: u32 = 0;
-    while i < 8 {
-        next = put_member(out, next, m, i + 1);
-        i += 1;
+    for i in 1..=8 {
+        next = put_member(out, next, m, i);
     }
     next
 }
@@ -131,26 +129,18 @@ fn put_args(out: &mut [u8], at: usize, k: u32, r: u32, a: u32, b: u32) -> usize
     put_arg(out, after_a, of_b, b)
 }
 
+// The words of the kinds, 1 to 11 in turn.
+const KIND_WORDS: [&[u8]; 11] = [
+    b"submit", b"label", b"send", b"summary", b"form", b"enter", b"place", b"receive", b"safe",
+    b"confirm", b"deliver",
+];
+
 // The word of a kind.
-fn put_kind_word(out: &mut [u8], at: usize, k: u32) -> usize
-    requires le_k { (1 ≤ k) × (k ≤ last_kind) }
-    requires room { Room out.old at (kind_word k) }
-    ensures { Wrote out.old at (kind_word k) out.new result }
+fn kind_word(k: u32) -> &'static [u8]
+    requires { (1 ≤ k) × (k ≤ last_kind) }
+    ensures { result.now ≡ kind_word k }
 {
-    match k {
-        kind_numbers::SUBMIT => put_word(out, at, b"submit"),
-        kind_numbers::LABEL => put_word(out, at, b"label"),
-        kind_numbers::SEND_ENTRY => put_word(out, at, b"send"),
-        kind_numbers::SEND_SUMMARY => put_word(out, at, b"summary"),
-        kind_numbers::FORM => put_word(out, at, b"form"),
-        kind_numbers::ENTER => put_word(out, at, b"enter"),
-        kind_numbers::PLACE => put_word(out, at, b"place"),
-        kind_numbers::RECEIVE => put_word(out, at, b"receive"),
-        kind_numbers::NOTICE => put_word(out, at, b"safe"),
-        kind_numbers::CONFIRM => put_word(out, at, b"confirm"),
-        // kind_numbers::DELIVER
-        _ => put_word(out, at, b"deliver"),
-    }
+    KIND_WORDS[(k - 1) as usize]
 }
 
 // The word of the kind, and the words that it uses: `submit 2 101`, `form 4 {1,3}`.
@@ -159,7 +149,7 @@ fn put_kind_line(out: &mut [u8], at: usize, k: u32, r: u32, a: u32, b: u32) -> u
     requires room { Room out.old at (kind_text (words_of k r a b)) }
     ensures { Wrote out.old at (kind_text (words_of k r a b)) out.new result }
 {
-    let after_word = put_kind_word(out, at, k);
+    let after_word = put_word(out, at, kind_word(k));
     let after_args = put_args(out, after_word, k, r, a, b);
     put_word(out, after_args, b"\n")
 }

@@ -12,11 +12,11 @@ ghost use Rattle.codec.specs.Cells.{cells};
 ghost use Rattle.codec.specs.Bounded.{bounded};
 ghost use Rattle.codec.specs.Table.{flags};
 ghost use Rattle.base.specs.Lists.{rising};
-ghost use Rattle.model.specs.Hall.{max_entries, max_views, max_queue, max_recorders};
-ghost use Rattle.store.specs.Layout.{views_at, view_cells, entries_at, entry_cells, recorders_at, network_at, queues_at, votes_at};
+ghost use Rattle.model.specs.Hall.{max_views, max_recorders};
+ghost use Rattle.store.specs.Layout.{views_at, view_cells, entries_at, recorders_at, network_at, queues_at, votes_at};
 ghost use Rattle.store.specs.Layout.{stored_length, views_size, entries_size, recorders_size, network_size, queues_size, votes_size};
 ghost use Rattle.store.specs.Layout.{view_size, entry_size, recorder_size, recorder_confirm_at, endpoint_size, row_size, summary_size};
-ghost use Rattle.store.specs.Layout.{queue_size, number_size, word_size, sets_size, sent_size, queued_size, messages_size};
+ghost use Rattle.store.specs.Layout.{queue_size, number_size, word_size, sent_size, queued_size};
 ghost use Rattle.store.specs.CellForms.{entry_form, summary_form, sent_form, recorder_form};
 ghost use Rattle.store.specs.CellForms.{endpoint_form, queued_form, queue_form, vote_form};
 ghost use Rattle.store.specs.ViewForm.{view_form, views_form};
@@ -147,6 +147,7 @@ fn valid_summary(b: &[u8], at: usize) -> bool
 }
 
 // "At most one sent summary": a count, and the summary or zeros.
+// By cases for speed: as a counted table of one place, a hall of 32 views takes a fifth longer to check.
 fn valid_sent(b: &[u8], at: usize) -> bool
     requires { at + sent_size ≤ length b.now }
     ensures { result ≡ sent_form.valid (part at sent_size b.now) }

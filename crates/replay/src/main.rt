@@ -31,11 +31,14 @@ fn replay(file: &[u8], text: &mut [u8]) -> usize
     ensures { (result ≤ length text.new) × (take result text.new ≡ listing hl3 file.now) }
 {
     let mut hall = [0u8; replaying::HALL];
-    let listed = replaying::list_run(file, &mut hall, text);
-    listed.len
+    match replaying::list_run(file, &mut hall, text) {
+        Ok(len) => len,
+        Err(_) => 0,
+    }
 }
 
 // Reads to the start of a slice, until it is full or the input has ended. Gives how many bytes were read.
+// A `while` stays: `read_exact` takes a short input for an error, and `read_to_end` needs a heap.
 fn read_full<R: Read>(input: &mut R, file: &mut [u8]) -> io::Result<usize>
     ensures fits { IfOk result (λ n. n ≤ length file.new) }
     ensures read { IfOk result (λ n. Consumes (R.remaining input.old) (R.remaining input.new) (take n file.new)) }

@@ -11,10 +11,10 @@ use Rattle.base.proofs.Bools.{by_cases}
 use Rattle.calls.specs.Lent.{answer_length, with_answer, lent_call, Leaves}
 use Rattle.calls.proofs.Refused.{lent-refused, lent-tried, lent-done}
 use Rattle.runfile.specs.InRange.{Bytes}
-use Rattle.replaying.specs.declared.Listed.{Listed}
+use Rattle.std.specs.Prelude.{Ok, Err}
 use Rattle.replaying.specs.Listings.{Outcome, list_on, Gives}
 use Rattle.replaying.specs.Lent.{listed_words, list_lent, LeavesList}
-use Rattle.replaying.proofs.Whole.{only-short, listed-most, always-most}
+use Rattle.replaying.proofs.Whole.{only-short, refused-some, listed-most, always-most}
 
 module _ (f hall text out : List ℕ) where
   abbrev o : Outcome
@@ -34,26 +34,27 @@ module _ (f hall text out : List ℕ) where
       (λ t. rw (t, ◌⨾◌) (sym (ap (λ (x : Outcome). x.number) (only-short f hall text (eqb-false o.number 0 t))))) in
       both (lent-tried (listed_words o) hall o.hall out 18 e l) (lent-tried (listed_words o) text o.text out 18 e l)
 
-  module _ (x : Listed) (b t : List ℕ) (g : Gives o x b t) where
-    -- refused
-    pub list-refused : (x.number ≡ 0 → ⊥) → LeavesList (list_lent f hall text out) x.number b t out
-    list-refused ne =
-        let same = only-short f hall text (λ z. ne (g.number ∙ z)) in
-        let l =
-        both (lent-refused (listed_words o) hall o.hall out x.number g.number ne)
-        (lent-refused (listed_words o) text o.text out x.number g.number ne) in
-        record {
-          number = l.number;
-          hall = g.hall ∙ ap (λ (z : Outcome). z.hall) same ∙ l.hall;
-          text = g.text ∙ ap (λ (z : Outcome). z.text) same ∙ l.text;
-          answer = l.answer;
-        }
+  -- refused
+  pub list-refused : {why : ℕ} {b t : List ℕ} → Gives o (Err why) b t → LeavesList (list_lent f hall text out) why b t out
+  list-refused {why} g =
+      let ne = refused-some f hall text g in
+      let same = only-short f hall text (λ z. ne (g.number ∙ z)) in
+      let l =
+      both (lent-refused (listed_words o) hall o.hall out why g.number ne)
+      (lent-refused (listed_words o) text o.text out why g.number ne) in
+      record {
+        number = l.number;
+        hall = g.hall ∙ ap (λ (z : Outcome). z.hall) same ∙ l.hall;
+        text = g.text ∙ ap (λ (z : Outcome). z.text) same ∙ l.text;
+        answer = l.answer;
+      }
 
+  module _ {n : ℕ} {b t : List ℕ} (g : Gives o (Ok n) b t) where
     -- taken
-    pub list_done : x.number ≡ 0 → answer_length ≤ length out → (y : List ℕ) → y ≡ with_answer out (x.len ∷ [])
+    pub list_done : answer_length ≤ length out → {y : List ℕ} → y ≡ with_answer out (n ∷ [])
         → LeavesList (list_lent f hall text out) 0 b t y
-    list_done e l y w =
-        let z : o.number ≡ 0 = sym g.number ∙ e in
+    list_done l w =
+        let z : o.number ≡ 0 = sym g.number in
         let d = both (lent-done (listed_words o) hall o.hall out z l) (lent-done (listed_words o) text o.text out z l) in
         record {
           number = d.number;
@@ -63,5 +64,5 @@ module _ (f hall text out : List ℕ) where
         }
 
     -- the length is one word
-    pub list_length : Bytes f → x.len < 2 ^ 32
+    pub list_length : Bytes f → n < 2 ^ 32
     list_length bytes = omega (arith, g.len, listed-most f hall text, always-most f bytes)

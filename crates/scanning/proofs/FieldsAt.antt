@@ -4,18 +4,37 @@ use native.Mathlib.Omega.{arith}
 use native.Mathlib.Numerals.{add-one}
 use mathlib.Core.Path.{◌≡◌, refl, sym, ap, subst, ◌∙◌}
 use mathlib.Core.Logic.{⊎_elim}
-use mathlib.Core.Bool.{true, false, ◌||◌}
+use mathlib.Core.Bool.{Bool, true, false, not, ◌||◌}
 use mathlib.Core.List.{List, [], ◌∷◌, ◌++◌}
 use lib.Dec.{eqb, ltb}
-use lib.ListN.{length, take, drop, get_or, drop_of_length-le, take-append-drop}
-use lib.Seq.{drop-cons, drop-drop}
-use borrow.Author.Tests.{eqb-true, eq-eqb, ne_eqb, ltb-true, ltb-false}
+use lib.ListN.{length, take, drop, get_or, drop_of_length-le, take-append-drop, length-drop}
+use lib.Seq.{drop-cons, drop-drop, get_or-drop, take_all}
+use borrow.Author.Tests.{eqb-true, eq-eqb, ne_eqb, ltb-true, ltb-false, not-true, not-false}
 use Rattle.base.specs.Lists.{rest, is_empty}
 use Rattle.base.proofs.Bools.{by_cases, not-both, or_cases}
 use Rattle.codec.specs.Bytes.{part}
 use Rattle.story.specs.Fields.{is_blank, is_end, is_break, breaks, fields_in, first_field, line_length}
 use Rattle.story.proofs.FieldsLaws.{Unbroken, Field, fields-cons}
-use Rattle.scanning.specs.Scanned.{Skips, Ends, Spans}
+use Rattle.scanning.specs.Scanned.{Spans}
+
+-- r is the index of the first byte that passes a test, else the length
+pub record Finds (test : ℕ → Bool) (bs : List ℕ) (r : ℕ) : Type 0 where
+  pub within : r ≤ length bs
+  pub passed : (k : ℕ) → k < r → false ≡ test (get_or bs k 0)
+  pub stops : r < length bs → true ≡ test (get_or bs r 0)
+
+-- r is the first offset from `at` on where no blank stands, within the text
+pub record Skips (text : List ℕ) (at r : ℕ) : Type 0 where
+  pub within : r ≤ length text
+  pub fields : fields_in (drop at text) ≡ fields_in (drop r text)
+  pub stops : r < length text → is_blank (get_or text r 0) ≡ false
+
+-- r is the first offset from `at` on where no field goes on
+pub record Ends (text : List ℕ) (at r : ℕ) : Type 0 where
+  pub from : at ≤ r
+  pub within : r ≤ length text
+  pub goes : (i : ℕ) → at ≤ i → i < r → is_break (get_or text i 0) ≡ false
+  pub stops : breaks (drop r text) ≡ true
 
 -- a text from an offset on: the byte there, and what follows; past its end nothing
 pub drop-step : (text : List ℕ) (i : ℕ) → i < length text → drop i text ≡ get_or text i 0 ∷ drop (i + 1) text
@@ -36,28 +55,57 @@ fields-blank : (b : ℕ) (bs : List ℕ) → is_blank b ≡ true → fields_in (
 unfolding fields_in
 fields-blank b bs e = rw (blank-no-end b e, fields_in, e)
 
--- a blank is passed over
-pub skip_step : (text : List ℕ) (i : ℕ) → i < length text → is_blank (get_or text i 0) ≡ true → fields_in (drop i text) ≡ fields_in (drop (i + 1) text)
-skip_step text i h e = ap fields_in (drop-step text i h) ∙ fields-blank (get_or text i 0) (drop (i + 1) text) e
+-- what is passed over: blanks
+skip-all : (bs : List ℕ) (n : ℕ) → n ≤ length bs → ((k : ℕ) → k < n → is_blank (get_or bs k 0) ≡ true) → fields_in bs ≡ fields_in (drop n bs)
+skip-all bs zero h g = refl
+skip-all [] (suc n) h g = absurd (omega arith)
+skip-all (b ∷ bs) (suc n) h g = fields-blank b bs (g 0 (omega arith)) ∙ skip-all bs n (omega arith) (λ k p. g (suc k) (omega arith))
 
--- where a field ends: at a break, or at the end
-pub breaks-at : (text : List ℕ) (i : ℕ) → i < length text → is_break (get_or text i 0) ≡ true → breaks (drop i text) ≡ true
-unfolding breaks
-breaks-at text i h e = rw (drop-step text i h) e
+-- a text from an offset on, as the code cuts it
+abbrev pub tail : List ℕ → ℕ → List ℕ
+tail text at = take (length text - at) (drop at text)
 
-pub breaks-past : (text : List ℕ) (i : ℕ) → length text ≤ i → breaks (drop i text) ≡ true
-unfolding breaks
-breaks-past text i h = rw (drop_past text i h)
+pub tail-drop : (text : List ℕ) (at : ℕ) → tail text at ≡ drop at text
+tail-drop text at = take_all (length text - at) (drop at text) (omega (arith, length-drop at text))
 
--- one byte more that is no break
-pub goes-more : (text : List ℕ) (at i : ℕ) → ((k : ℕ) → at ≤ k → k < i → is_break (get_or text k 0) ≡ false) → is_break (get_or text i 0) ≡ false
-    → (k : ℕ) → at ≤ k → k < i + 1 → is_break (get_or text k 0) ≡ false
-goes-more text at i below here k p q = by_cases (ltb k i) (λ t. below k p (ltb-true k i t)) last
-  where
-    last : ltb k i ≡ false → is_break (get_or text k 0) ≡ false
-    last t =
-        let same : i ≡ k = omega (arith, ltb-false k i t) in
-        subst (λ (j : ℕ). is_break (get_or text j 0) ≡ false) same here
+-- a byte of it
+get-drop : (text : List ℕ) (at k : ℕ) → get_or (drop at text) k 0 ≡ get_or text (at + k) 0
+get-drop text at k = get_or-drop at text k 0
+
+module _ (text : List ℕ) (at r : ℕ) (h : at ≤ length text) where
+  pub skips : Finds (λ b. not (is_blank b)) (tail text at) r → Skips text at (at + r)
+  skips g =
+      let f = subst (λ (bs : List ℕ). Finds (λ b. not (is_blank b)) bs r) (tail-drop text at) g in
+      record {
+        within = omega (arith, f.within, length-drop at text);
+        fields =
+            skip-all (drop at text) r f.within (λ k p. not-false (is_blank (get_or (drop at text) k 0)) (sym (f.passed k p)))
+            ∙ ap fields_in (drop-drop r at text);
+        stops = λ p.
+            ap is_blank (sym (get-drop text at r))
+            ∙ not-true (is_blank (get_or (drop at text) r 0)) (sym (f.stops (omega (arith, length-drop at text))));
+      }
+
+  -- where a field ends: at a break, or at the text's end
+  pub ends : Finds is_break (tail text at) r → Ends text at (at + r)
+  unfolding breaks
+  ends g =
+      let f = subst (λ (bs : List ℕ). Finds is_break bs r) (tail-drop text at) g in
+      record {
+        from = omega arith;
+        within = omega (arith, f.within, length-drop at text);
+        goes = λ k p q.
+            let i : ℕ = k - at in
+            let e : at + i ≡ k = omega arith in
+            subst (λ (j : ℕ). is_break (get_or text j 0) ≡ false) e
+            (ap is_break (sym (get-drop text at i)) ∙ sym (f.passed i (omega arith)));
+        stops = by_cases (ltb (at + r) (length text))
+            (λ t.
+            let p = ltb-true (at + r) (length text) t in
+            rw (drop-step text (at + r) p)
+            (ap is_break (sym (get-drop text at r)) ∙ sym (f.stops (omega (arith, length-drop at text)))))
+            (λ t. rw (drop_past text (at + r) (ltb-false (at + r) (length text) t)));
+      }
 
 -- at a break that is no blank there is no field
 no-fields-in : (l : List ℕ) → breaks l ≡ true → (is_empty l ≡ false → is_blank (get_or l 0 0) ≡ false) → fields_in l ≡ []
@@ -142,14 +190,33 @@ spans text at from to s e = by_cases (ltb from to) some none
 
 -- ## The line's end
 
-pub line_on : (text : List ℕ) (i : ℕ) → i < length text → eqb (get_or text i 0) 10 ≡ false → i + line_length (drop i text) ≡ i + 1 + line_length (drop (i + 1) text)
+pub line-past : (bs : List ℕ) (n : ℕ) → length bs ≤ n → line_length (drop n bs) ≡ 0
 unfolding line_length
-line_on text i h e = rw (drop-step text i h, line_length, e) (omega arith)
+line-past bs n h = rw (drop_past bs n h, line_length)
 
-pub line-over : (text : List ℕ) (i : ℕ) → i < length text → eqb (get_or text i 0) 10 ≡ true → line_length (drop i text) ≡ 1
+line-over : (bs : List ℕ) (n : ℕ) → n < length bs → eqb (get_or bs n 0) 10 ≡ true → line_length (drop n bs) ≡ 1
 unfolding line_length
-line-over text i h e = rw (drop-step text i h, line_length, e)
+line-over bs n h e = rw (drop-step bs n h, line_length, e)
 
-pub line-past : (text : List ℕ) (i : ℕ) → length text ≤ i → line_length (drop i text) ≡ 0
+-- the line goes on over bytes that are none of byte 10
+line-all : (bs : List ℕ) (n : ℕ) → n ≤ length bs → ((k : ℕ) → k < n → eqb (get_or bs k 0) 10 ≡ false) → line_length bs ≡ n + line_length (drop n bs)
 unfolding line_length
-line-past text i h = rw (drop_past text i h, line_length)
+line-all bs zero h g = omega arith
+line-all [] (suc n) h g = absurd (omega arith)
+line-all (b ∷ bs) (suc n) h g = rw (line_length, g 0 (omega arith)) (omega (arith, line-all bs n (omega arith) (λ k p. g (suc k) (omega arith))))
+
+-- the line ends after the byte 10 found, or where the text ends
+module _ (text : List ℕ) (at r : ℕ) (h : at ≤ length text) (g : Finds (λ b. eqb b 10) (tail text at) r) where
+  found : Finds (λ b. eqb b 10) (drop at text) r
+  found = subst (λ (bs : List ℕ). Finds (λ b. eqb b 10) bs r) (tail-drop text at) g
+
+  all : line_length (drop at text) ≡ r + line_length (drop r (drop at text))
+  all = line-all (drop at text) r found.within (λ k p. sym (found.passed k p))
+
+  pub line-found : at + r < length text → at + r + 1 ≡ at + line_length (drop at text)
+  line-found p =
+      let q : r < length (drop at text) = omega (arith, length-drop at text) in
+      omega (arith, all, line-over (drop at text) r q (sym (found.stops q)))
+
+  pub line-unfound : length text ≤ at + r → at + r ≡ at + line_length (drop at text)
+  line-unfound p = omega (arith, all, line-past (drop at text) r (omega (arith, length-drop at text)))

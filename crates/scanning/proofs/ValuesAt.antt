@@ -1,23 +1,34 @@
 -- Values of a field, byte by byte. Assumes nothing.
-use Prim.Native.Nat.{ℕ, ◌+◌, ◌-◌, ◌^◌, ◌≤◌, ◌<◌}
+use native.Mathlib.Numerals.{add-one}
+use Prim.Native.Nat.{ℕ, zero, suc, ◌+◌, ◌-◌, ◌^◌, ◌≤◌, ◌<◌}
 use native.Mathlib.Omega.{arith}
-use mathlib.Core.Path.{◌≡◌, refl, sym, ap, ap₂, ◌∙◌}
+use mathlib.Core.Path.{◌≡◌, refl, sym, ap, ◌∙◌}
 use mathlib.Core.Bool.{Bool, true, false, not, ◌&&◌}
 use mathlib.Core.List.{List, [], ◌∷◌}
 use lib.Dec.{eqb, leb, ltb}
 use lib.ListN.{length, drop, get_or}
-use borrow.Author.Tests.{leb-true, ltb-true, ltb-false, le-leb, lt-leb, eq-eqb, ne_eqb}
+use borrow.Author.Tests.{ltb-false, both_ways, le-ltb, lt-ltb, le-leb, lt-leb, eq-eqb, ne_eqb}
 use Rattle.base.specs.Lists.{rest, is_empty}
 use Rattle.base.specs.Numbers.{within}
-use Rattle.base.proofs.Bools.{by_cases, and_both}
+use Rattle.base.proofs.Bools.{by_cases, and-true}
 use Rattle.story.specs.Numbers.{Value, value, no_value, goes_on, with_digit, digits_from, number_of}
 use Rattle.quorum.specs.Sets.{in_mask}
 use Rattle.codec.specs.Bytes.{same_bytes}
 use Rattle.codec.proofs.BytesLaws.{same-eq}
-use Rattle.model.specs.Listing.{summary-word}
+use Rattle.model.specs.Listing.{hall-word}
+use Rattle.model.specs.Kinds.{kinds, last_kind}
+use Rattle.model.proofs.KindLaws.{names-kind}
 use Rattle.story.specs.Sets.{joins, with_member, members_from, set_from, set_of}
-use Rattle.story.specs.Keywords.{submit-word, label-word, send-word, form-word, enter-word, kind_words, search, word_number}
-use Rattle.scanning.specs.Scanned.{chosen, closed_by, other_word, late_word}
+use Rattle.story.specs.Keywords.{kind_words, kind_word, raw_word, raw_number, search, word_number}
+use Rattle.story.proofs.KeywordsLaws.{kind-named}
+use Rattle.std.proofs.Common.{Option, Some, None, Bor, map, cond, position}
+use Rattle.std.specs.List.{position_or_len}
+use Rattle.std.proofs.lemmas.List.{length-map, get_or-map}
+use Rattle.std.proofs.lemmas.List.Quantifiers.{position-Some}
+use Rattle.std.specs.Option.{SomeIff}
+use Rattle.std.specs.Str.{bytes_eq}
+use Rattle.std.proofs.lemmas.Slice.Eq.{bytes_eq-Decides}
+use Rattle.scanning.specs.Scanned.{Grows, place_of}
 use Rattle.scanning.proofs.FieldsAt.{drop-step, drop_past}
 
 -- ## Bytes in a range
@@ -53,18 +64,10 @@ module _ (n b : ℕ) where
   unfolding goes_on fits
   goes-digit h k = ap fits (in-range 48 57 b h k)
 
--- what is known of a digit that a number goes on with
-pub record Digit (n b : ℕ) : Type 0 where
-  pub low : 48 ≤ b
-  pub high : b ≤ 57
-  pub fits : with_digit n b < 2 ^ 32
-
-pub goes-facts : (n b : ℕ) → goes_on n b ≡ true → Digit n b
-unfolding goes_on within
-goes-facts n b e =
-    let p = and_both (leb 48 b && leb b 57) (ltb (with_digit n b) (2 ^ 32)) e in
-    let q = and_both (leb 48 b) (leb b 57) p.0 in
-    record { low = leb-true 48 b q.0; high = leb-true b 57 q.1; fits = ltb-true (with_digit n b) (2 ^ 32) p.1 }
+-- a digit more, if the number with it is a word
+pub grows : (n b : ℕ) (r : Option ℕ) → 48 ≤ b → b ≤ 57 → SomeIff r (with_digit n b < 2 ^ 32) (with_digit n b) → Grows (goes_on n b) (with_digit n b) r
+grows n b (Some x) h k e = (goes-digit n b h k ∙ lt-ltb (with_digit n b) (2 ^ 32) e.0, e.1)
+grows n b None h k e = goes-digit n b h k ∙ le-ltb (with_digit n b) (2 ^ 32) (omega arith)
 
 pub number-some : (f : List ℕ) → 0 < length f → number_of f ≡ digits_from 0 f
 unfolding number_of
@@ -108,145 +111,164 @@ module _ (m b : ℕ) where
   unfolding joins free
   joins-digit h k = ap free (in-range 49 56 b h k)
 
-pub joins-range : (m b : ℕ) → joins m b ≡ true → (49 ≤ b) × (b ≤ 56)
-unfolding joins within
-joins-range m b e =
-    let p = and_both (leb 49 b && leb b 56) (not (in_mask m (b - 48))) e in
-    let q = and_both (leb 49 b) (leb b 56) p.0 in
-    (leb-true 49 b q.0, leb-true b 56 q.1)
+-- a field of two bytes and more
+two_steps : (f : List ℕ) → 2 ≤ length f → f ≡ get_or f 0 0 ∷ get_or f 1 0 ∷ drop 2 f
+two_steps [] h = absurd (omega arith)
+two_steps (b ∷ []) h = absurd (omega arith)
+two_steps (b ∷ c ∷ bs) h = refl
 
--- two bytes of a field
-two_steps : (f : List ℕ) (i : ℕ) → i + 1 < length f → drop i f ≡ get_or f i 0 ∷ get_or f (i + 1) 0 ∷ drop (i + 2) f
-two_steps f i h =
-    let e : i + 1 + 1 ≡ i + 2 = omega arith in
-    drop-step f i (omega arith)
-    ∙ ap (λ (l : List ℕ). get_or f i 0 ∷ l) (drop-step f (i + 1) h ∙ ap (λ (k : ℕ). get_or f (i + 1) 0 ∷ drop k f) e)
-
--- whether no byte is left
-pub left-none : (f : List ℕ) (i : ℕ) → i ≤ length f → is_empty (drop i f) ≡ eqb i (length f)
+empty_of : (l : List ℕ) → length l ≡ 0 → is_empty l ≡ true
 unfolding is_empty
-left-none f i h = by_cases (ltb i (length f)) inside past
-  where
-    inside : ltb i (length f) ≡ true → is_empty (drop i f) ≡ eqb i (length f)
-    inside t =
-        let l = ltb-true i (length f) t in
-        ap is_empty (drop-step f i l) ∙ sym (ne_eqb i (length f) (λ e. omega arith))
-
-    past : ltb i (length f) ≡ false → is_empty (drop i f) ≡ eqb i (length f)
-    past t =
-        let l = ltb-false i (length f) t in
-        ap is_empty (drop_past f i l) ∙ sym (eq-eqb i (length f) (omega arith))
-
--- a member and the byte after it, by what is known of the two
-module _ (m b c : ℕ) (bs : List ℕ) where
-  abbrev by_bytes : (t k : Bool) → Value
-  by_bytes t k =
-      elim t [
-        | true ↦ elim k [ true ↦ members_from (with_member m b) bs | false ↦ closed_by c (is_empty bs) (with_member m b) ]
-        | false ↦ no_value
-      ]
-
-  cons-bytes : members_from m (b ∷ c ∷ bs) ≡ by_bytes (joins m b) (eqb c 44)
-  unfolding members_from closed_by
-  cons-bytes = refl
-
-  cons-off : joins m b ≡ false → members_from m (b ∷ c ∷ bs) ≡ no_value
-  cons-off e = cons-bytes ∙ ap (λ (t : Bool). by_bytes t (eqb c 44)) e
-
-  cons-on : joins m b ≡ true → eqb c 44 ≡ true → members_from m (b ∷ c ∷ bs) ≡ members_from (with_member m b) bs
-  cons-on e k = cons-bytes ∙ ap₂ by_bytes e k
-
-  cons-last : joins m b ≡ true → eqb c 44 ≡ false → members_from m (b ∷ c ∷ bs) ≡ closed_by c (is_empty bs) (with_member m b)
-  cons-last e k = cons-bytes ∙ ap₂ by_bytes e k
-
-module _ (f : List ℕ) (m i : ℕ) (h : i + 1 < length f) where
-  pub members-off : joins m (get_or f i 0) ≡ false → members_from m (drop i f) ≡ no_value
-  members-off e = ap (members_from m) (two_steps f i h) ∙ cons-off m (get_or f i 0) (get_or f (i + 1) 0) (drop (i + 2) f) e
-
-  pub members-on : joins m (get_or f i 0) ≡ true → eqb (get_or f (i + 1) 0) 44 ≡ true
-      → members_from m (drop i f) ≡ members_from (with_member m (get_or f i 0)) (drop (i + 2) f)
-  members-on e k = ap (members_from m) (two_steps f i h) ∙ cons-on m (get_or f i 0) (get_or f (i + 1) 0) (drop (i + 2) f) e k
-
-  pub members-last : joins m (get_or f i 0) ≡ true → eqb (get_or f (i + 1) 0) 44 ≡ false
-      → members_from m (drop i f) ≡ closed_by (get_or f (i + 1) 0) (eqb (i + 2) (length f)) (with_member m (get_or f i 0))
-  members-last e k =
-      ap (members_from m) (two_steps f i h)
-      ∙ cons-last m (get_or f i 0) (get_or f (i + 1) 0) (drop (i + 2) f) e k
-      ∙ ap (λ (t : Bool). closed_by (get_or f (i + 1) 0) t (with_member m (get_or f i 0))) (left-none f (i + 2) (omega arith))
-
-pub members-short : (f : List ℕ) (m i : ℕ) → length f ≤ i + 1 → members_from m (drop i f) ≡ no_value
-unfolding members_from
-members-short f m i h = by_cases (ltb i (length f)) inside past
-  where
-    inside : ltb i (length f) ≡ true → members_from m (drop i f) ≡ no_value
-    inside t = ap (members_from m) (drop-step f i (ltb-true i (length f) t) ∙ ap (λ (l : List ℕ). get_or f i 0 ∷ l) (drop_past f (i + 1) h))
-
-    past : ltb i (length f) ≡ false → members_from m (drop i f) ≡ no_value
-    past t = ap (members_from m) (drop_past f i (ltb-false i (length f) t))
-
--- a set by its first byte and its length
-pub set-short : (f : List ℕ) → length f < 2 → set_of f ≡ no_value
-unfolding set_of set_from members_from
-set-short [] h = refl
-set-short (b ∷ []) h = by_cases (eqb b 123) (λ e. rw (e, set_of)) (λ e. rw (e, set_of))
-set-short (b ∷ c ∷ bs) h = absurd (omega arith)
-
-pub set-unopened : (f : List ℕ) → eqb (get_or f 0 0) 123 ≡ false → set_of f ≡ no_value
-unfolding set_of
-set-unopened [] e = refl
-set-unopened (b ∷ bs) e = rw (e, set_of)
-
-set-opened : (b : ℕ) (bs : List ℕ) → eqb b 123 ≡ true → set_of (b ∷ bs) ≡ set_from bs
-unfolding set_of
-set-opened b bs e = rw (e, set_of)
-
-from_one : (b : ℕ) → set_from (b ∷ []) ≡ closed_by b true 0
-unfolding set_from members_from closed_by is_empty
-from_one b = refl
+empty_of [] h = refl
+empty_of (x ∷ xs) h = absurd (omega arith)
 
 no-and : (t : Bool) → (t && false) ≡ false
 no-and true = refl
 no-and false = refl
 
+unclosed : (c : ℕ) (l : List ℕ) → (c ≡ 125 → length l ≡ 0 → ⊥) → (eqb c 125 && is_empty l) ≡ false
+unfolding is_empty
+unclosed c [] h = rw (ne_eqb c 125 (λ e. h e refl)) refl
+unclosed c (x ∷ xs) h = no-and (eqb c 125)
+
+-- a member and the byte after it, by what is known of the two
+module _ (m b c : ℕ) (bs : List ℕ) where
+  abbrev by_bytes : (t k e : Bool) → Value
+  by_bytes t k e =
+      elim t [
+        | true ↦
+            elim k [
+              | true ↦ members_from (with_member m b) bs
+              | false ↦ elim e [ true ↦ value (with_member m b) | false ↦ no_value ]
+            ]
+        | false ↦ no_value
+      ]
+
+  cons-bytes : members_from m (b ∷ c ∷ bs) ≡ by_bytes (joins m b) (eqb c 44) (eqb c 125 && is_empty bs)
+  unfolding members_from
+  cons-bytes = refl
+
+module _ (f : List ℕ) (m : ℕ) (h : 2 ≤ length f) where
+  two-bytes : members_from m f ≡ by_bytes m (get_or f 0 0) (get_or f 1 0) (drop 2 f) (joins m (get_or f 0 0)) (eqb (get_or f 1 0) 44) (eqb (get_or f 1 0) 125 && is_empty (drop 2 f))
+  two-bytes = ap (members_from m) (two_steps f h) ∙ cons-bytes m (get_or f 0 0) (get_or f 1 0) (drop 2 f)
+
+  pub members-off : joins m (get_or f 0 0) ≡ false → members_from m f ≡ no_value
+  members-off e = two-bytes ∙ rw e refl
+
+  module _ (e : joins m (get_or f 0 0) ≡ true) where
+    pub members-on : get_or f 1 0 ≡ 44 → members_from m f ≡ members_from (with_member m (get_or f 0 0)) (drop 2 f)
+    members-on k = two-bytes ∙ rw (e, eq-eqb (get_or f 1 0) 44 k) refl
+
+    pub members-closed : get_or f 1 0 ≡ 125 → length (drop 2 f) ≡ 0 → members_from m f ≡ value (with_member m (get_or f 0 0))
+    members-closed k n =
+        two-bytes
+        ∙ rw (e, ne_eqb (get_or f 1 0) 44 (omega arith), and-true (eqb (get_or f 1 0) 125) (is_empty (drop 2 f)) (eq-eqb (get_or f 1 0) 125 k) (empty_of (drop 2 f) n)) refl
+
+    pub members-ill : (get_or f 1 0 ≡ 44 → ⊥) → (get_or f 1 0 ≡ 125 → length (drop 2 f) ≡ 0 → ⊥) → members_from m f ≡ no_value
+    members-ill k n =
+        two-bytes
+        ∙ rw (e, ne_eqb (get_or f 1 0) 44 k, unclosed (get_or f 1 0) (drop 2 f) n) refl
+
+pub members-short : (f : List ℕ) (m : ℕ) → length f < 2 → members_from m f ≡ no_value
+unfolding members_from
+members-short [] m h = refl
+members-short (b ∷ []) m h = refl
+members-short (b ∷ c ∷ bs) m h = absurd (omega arith)
+
+-- a set in braces: `}` alone after the first, or members; or no set
+pub set-closed : (l : List ℕ) → l ≡ 125 ∷ [] → set_of (123 ∷ l) ≡ value 0
+unfolding set_of set_from is_empty
+set-closed l e = ap (λ (x : List ℕ). set_of (123 ∷ x)) e
+
+abbrev closed : Bool → Value
+closed t = elim t [ true ↦ value 0 | false ↦ no_value ]
+
+from_one : (b : ℕ) → set_from (b ∷ []) ≡ closed (eqb b 125 && true)
+unfolding set_from members_from is_empty
+from_one b = refl
+
 from_more : (b c : ℕ) (bs : List ℕ) → set_from (b ∷ c ∷ bs) ≡ members_from 0 (b ∷ c ∷ bs)
 unfolding set_from is_empty
 from_more b c bs = rw (no-and (eqb b 125), set_from)
 
-pub set-two : (f : List ℕ) → length f ≡ 2 → eqb (get_or f 0 0) 123 ≡ true → set_of f ≡ closed_by (get_or f 1 0) true 0
-set-two [] h e = absurd (omega arith)
-set-two (b ∷ []) h e = absurd (omega arith)
-set-two (b ∷ c ∷ []) h e = set-opened b (c ∷ []) e ∙ from_one c
-set-two (b ∷ c ∷ d ∷ ds) h e = absurd (omega arith)
+pub set-members : (l : List ℕ) → (l ≡ 125 ∷ [] → ⊥) → set_of (123 ∷ l) ≡ members_from 0 l
+unfolding set_of set_from members_from
+set-members [] h = refl
+set-members (b ∷ []) h = from_one b ∙ ap (λ (t : Bool). closed (t && true)) (ne_eqb b 125 (λ e. h (ap (λ (x : ℕ). x ∷ []) e)))
+set-members (b ∷ c ∷ bs) h = from_more b c bs
 
-pub set_more : (f : List ℕ) → 2 < length f → eqb (get_or f 0 0) 123 ≡ true → set_of f ≡ members_from 0 (drop 1 f)
-set_more [] h e = absurd (omega arith)
-set_more (b ∷ []) h e = absurd (omega arith)
-set_more (b ∷ c ∷ []) h e = absurd (omega arith)
-set_more (b ∷ c ∷ d ∷ ds) h e = set-opened b (c ∷ d ∷ ds) e ∙ from_more c d ds
-
--- a set that is closed, or not
-pub closed-yes : (c : ℕ) (t : Bool) (m : ℕ) → (eqb c 125 && t) ≡ true → closed_by c t m ≡ value m
-unfolding closed_by
-closed-yes c t m e = rw (e, closed_by)
-
-pub closed-no : (c : ℕ) (t : Bool) (m : ℕ) → (eqb c 125 && t) ≡ false → closed_by c t m ≡ no_value
-unfolding closed_by
-closed-no c t m e = rw (e, closed_by)
+pub set-unopened : (f : List ℕ) → ((l : List ℕ) → f ≡ 123 ∷ l → ⊥) → set_of f ≡ no_value
+unfolding set_of
+set-unopened [] h = refl
+set-unopened (b ∷ bs) h = rw (ne_eqb b 123 (λ e. h bs (ap (λ (x : ℕ). x ∷ bs) e)), set_of) refl
 
 -- ## Words
 
-pub other_length : (w f : List ℕ) → (length f ≡ length w → ⊥) → same_bytes w f ≡ false
-other_length w f h = by_cases (same_bytes w f) (λ e. absurd (h (ap length (sym (same-eq w f e))))) (λ e. e)
+-- a field is a word, or another
+pub other_word : (f w : List ℕ) → (f ≡ w → ⊥) → same_bytes w f ≡ false
+other_word f w h = by_cases (same_bytes w f) (λ e. absurd (h (sym (same-eq w f e)))) (λ e. e)
 
--- one word before the others
-pub pick_word : (k : ℕ) {t s : Bool} {x y : ℕ} → t ≡ s → x ≡ y → chosen t k x ≡ chosen s k y
-pick_word k e h = ap₂ (λ (t : Bool) (x : ℕ). chosen t k x) e h
+-- a field that is none of the words counted
+search-none : (f : List ℕ) (ws : List (List ℕ)) (k d : ℕ) → ((j : ℕ) → j < length ws → same_bytes (get_or ws j []) f ≡ false) → search f ws k d ≡ d
+unfolding search
+search-none f [] k d h = refl
+search-none f (w ∷ ws) k d h = rw (h 0 (omega arith), search) (search-none f ws (k + 1) d (λ j p. h (suc j) (omega arith)))
 
-pub word_number_lem : (f : List ℕ) → word_number f
-    ≡ chosen (same_bytes submit-word f) 1
-    (chosen (same_bytes label-word f) 2
-    (chosen (same_bytes send-word f) 3
-    (chosen (same_bytes summary-word f) 4
-    (chosen (same_bytes form-word f) 5 (chosen (same_bytes enter-word f) 6 (late_word f))))))
-unfolding word_number search rest kind_words chosen late_word other_word
-word_number_lem f = refl
+-- a place among words, and none
+position-none : {X : Type 0} (p : X → Bool) (xs : List X) → None ≡ position p xs → length xs ≤ position_or_len p xs
+position-none p xs h =
+    by_cases (ltb (position_or_len p xs) (length xs))
+    (λ t. let q : None ≡ Some (position_or_len p xs) = h ∙ ap (λ (b : Bool). cond b (Some (position_or_len p xs)) None) t in absurd cc)
+    (ltb-false (position_or_len p xs) (length xs))
+
+none-passes : {X : Type 0} (p : X → Bool) (xs : List X) (d : X) → length xs ≤ position_or_len p xs → (k : ℕ) → k < length xs → p (get_or xs k d) ≡ false
+none-passes p [] d h k l = absurd (omega arith)
+none-passes p (x ∷ xs) d h k l = by_cases (p x) (λ t. absurd (omega (arith, place t))) (λ t. later t (none-passes p xs d (omega (arith, place t))) k l)
+  where
+    place : {b : Bool} → p x ≡ b → position_or_len p (x ∷ xs) ≡ cond (not b) (1 + position_or_len p xs) 0
+    place t = ap (λ (b : Bool). cond (not b) (1 + position_or_len p xs) 0) t
+
+    later : p x ≡ false → ((k : ℕ) → k < length xs → p (get_or xs k d) ≡ false) → (k : ℕ) → k < length (x ∷ xs) → p (get_or (x ∷ xs) k d) ≡ false
+    later t others zero l = t
+    later t others (suc k) l = others k (omega arith)
+
+-- a field among the words of the kinds, told one after another
+module _ (f : List ℕ) (ws : List (Bor (List ℕ))) where
+  abbrev is : Bor (List ℕ) → Bool
+  is w = bytes_eq w.now f
+
+  abbrev Kinds : Type 0
+  Kinds = map (λ (w : Bor (List ℕ)). w.now) ws ≡ rest kind_words
+
+  nothing : Bor (List ℕ)
+  nothing = record { ref_ptr = (0, 0); now = [] }
+
+  counted : Kinds → length ws ≡ 11
+  unfolding rest kind_words
+  counted e = sym (length-map ws (λ (w : Bor (List ℕ)). w.now)) ∙ ap length e
+
+  word-at : Kinds → (k : ℕ) → k < length ws → (get_or ws k nothing).now ≡ get_or (rest kind_words) k []
+  word-at e k h = sym (get_or-map (λ (w : Bor (List ℕ)). w.now) ws k nothing [] h) ∙ ap (λ (l : List (List ℕ)). get_or l k []) e
+
+  pub kind-place : (i : ℕ) → Some i ≡ place_of f ws → Kinds → i < 11
+  unfolding place_of
+  kind-place i h e = omega (arith, (position-Some is ws i nothing (sym h)).0, counted e)
+
+  pub kind-number : (i : ℕ) → Some i ≡ place_of f ws → Kinds → word_number f ≡ i + 1
+  unfolding place_of kind_word kind_words rest last_kind kinds
+  kind-number i h e =
+      let p = position-Some is ws i nothing (sym h) in
+      let named = names-kind (i + 1) (omega arith) (omega (arith, kind-place i h e)) in
+      let next : get_or kind_words (i + 1) [] ≡ get_or (rest kind_words) i [] = ap (λ (k : ℕ). get_or kind_words k []) (add-one i) in
+      let is-word : f ≡ kind_word (i + 1) = sym ((bytes_eq-Decides (get_or ws i nothing).now f).0 p.1) ∙ word-at e i p.0 ∙ sym next in
+      ap word_number is-word ∙ (kind-named (i + 1) named.0 named.1).number
+
+  pub no-kind-number : None ≡ place_of f ws → Kinds → (f ≡ raw_word → ⊥) → (f ≡ hall-word → ⊥) → word_number f ≡ 0
+  unfolding place_of word_number search
+  no-kind-number h e r l =
+      let none = none-passes is ws nothing (position-none is ws h) in
+      let others : (j : ℕ) → j < length ws → same_bytes (get_or (rest kind_words) j []) f ≡ false =
+      λ j p. other_word f (get_or (rest kind_words) j []) (λ q. both_ways (is (get_or ws j nothing)) (none j p) ((bytes_eq-Decides (get_or ws j nothing).now f).1 (word-at e j p ∙ sym q))) in
+      search-none f (rest kind_words) 1 (search f (raw_word ∷ hall-word ∷ []) raw_number 0)
+      (λ j p. others j (omega (arith, length-map ws (λ (w : Bor (List ℕ)). w.now), ap length e)))
+      ∙ rw (other_word f raw_word r, search, other_word f hall-word l) refl

@@ -92,11 +92,11 @@ module _ (bs : List ℕ) (k r a b : ℕ) where
   gives o x c e p q = record { answer = p ∙ sym (ap (λ (z : Outcome). z.answer) e); bytes = q ∙ sym (ap (λ (z : Outcome). z.bytes) e) }
 
   -- a step that a refusal ends, and its number
-  module _ (n : ℕ) (is : step_on bs (words_of k r a b) ≡ give (model.refused n) bs) {T : Type 0} (why : Refusal) (e : number why ≡ n) where
+  module _ (n : ℕ) (is : step_on bs (words_of k r a b) ≡ give (model.refused n) bs) (why : Refusal) (e : number why ≡ n) where
     pub refused : (x : Result Answer Refusal) → IsErrAnd x (λ y. y ≡ why) → Steps bs k r a b x bs
     refused x i = let p = err_from_is_err_and x i in gives (give (model.refused n) bs) x bs is (ap meaning p.1 ∙ ap model.refused (ap number p.2 ∙ e)) refl
 
-    pub refused-number : (x : Result T Refusal) → IsErrAnd x (λ y. y ≡ why) → refused_by x ≡ (model.plain (step_on bs (words_of k r a b)).answer).number
+    pub refused-number : {T : Type 0} (x : Result T Refusal) → IsErrAnd x (λ y. y ≡ why) → refused_by x ≡ (model.plain (step_on bs (words_of k r a b)).answer).number
     unfolding model.plain
     refused-number x i = exit x why i ∙ e ∙ sym (ap (λ (o : Outcome). (model.plain o.answer).number) is)
 

@@ -60,7 +60,7 @@ performs b κ r a d none = rw (eq-eqb (state_refusal hl3 (hall_of b) κ r a) 0 n
 
 module _ (h : Hall) (r a : ℕ) where
   -- R has a current view
-  abbrev InView : Type 0
+  abbrev pub InView : Type 0
   InView = h.service.current r ≡ 0 → ⊥
 
   in-view : no_view h r ≡ false → InView

@@ -8,14 +8,18 @@ use Rattle.model.specs.Answers.{accepted}
 use Rattle.model.specs.Call.{Words, words_of}
 use Rattle.store.specs.StoredForm.{is_stored}
 use Rattle.calls.specs.Calls.{step_on}
+use Rattle.undo.specs.declared.Place as code
 use Rattle.undo.specs.declared.Parts.{Parts}
 use Rattle.undo.specs.declared.Action.{Action}
 use Rattle.undo.specs.Buffer.{Slot, slot_size, max_slots, slot_form, is_undo, held_in, newest_of, pushed}
-use Rattle.undo.specs.Parts.{Places, place_at}
+use Rattle.undo.specs.Parts.{Place, Places, place_at}
 
 -- the places that the code found
+abbrev pub place_in : code.Place → Place
+place_in p = place_at p.offset p.size
+
 abbrev pub places_in : Parts → Places
-places_in p = record { first = place_at p.first p.first_size; second = place_at p.second p.second_size }
+places_in p = record { first = place_in p.first; second = place_in p.second }
 
 abbrev pub action_of : Action → Words
 action_of x = words_of x.k x.r x.a x.b

@@ -42,11 +42,11 @@ view_place i = place_at (view_cells + i * view_size) view_size
 abbrev entry_place : ℕ → Place
 entry_place i = place_at (entry_cells + i * entry_size) entry_size
 
-abbrev recorder_place : ℕ → Place
+abbrev pub recorder_place : ℕ → Place
 recorder_place r = place_at (recorders_at + (r - 1) * recorder_size) recorder_size
 
 -- recorder r's place in view g
-abbrev endpoint_place : Hall → ℕ → ℕ → Place
+abbrev pub endpoint_place : Hall → ℕ → ℕ → Place
 endpoint_place h r g = place_at (network_at + (r - 1) * row_size + index_of h.service.created g * endpoint_size) endpoint_size
 
 abbrev queue_place : Hall → ℕ → Place
@@ -54,7 +54,7 @@ queue_place h g = place_at (queues_at + index_of h.service.created g * queue_siz
 
 -- ## By kind
 
-abbrev both : Place → Place → Places
+abbrev pub both : Place → Place → Places
 both x y = record { first = x; second = y }
 
 -- 1: the new entry's cell, and the count of entries

@@ -12,19 +12,20 @@ ghost use Rattle.codec.specs.Bytes.{part};
 ghost use Rattle.codec.specs.Cells.{cells};
 ghost use Rattle.model.specs.Hall.{max_recorders, max_entries};
 ghost use Rattle.model.specs.Call.{words_of};
+ghost use Rattle.model.specs.KindNumbers.{kind_number};
 ghost use Rattle.store.specs.Layout.{stored_length, recorder_size};
 ghost use Rattle.store.specs.StoredForm.{hall_of, is_stored};
 ghost use Rattle.hall.specs.Parts.{HasRecorder};
 ghost use Rattle.undo.specs.Buffer.{Slot, part_size, words_size, slot_size, max_slots, undo_length};
 ghost use Rattle.undo.specs.Buffer.{part_form, words_form, slot_form, is_undo, held_in, newest_of, pushed, popped, put_back};
-ghost use Rattle.undo.specs.Parts.{place_at, entry_grown, view_grown, in_label, in_current, alone, in_queue, waiting_index};
+ghost use Rattle.undo.specs.Parts.{place_at, both, recorder_place, endpoint_place, in_label, in_current, alone, in_queue, waiting_index};
 ghost use Rattle.undo.specs.Parts.{parts, part_of, slot_of};
-ghost use Rattle.undo.specs.Code.{places_in, action_of, Accepts, RoomMade, Holding, NewestAt, PartFits, part_back};
+ghost use Rattle.undo.specs.Code.{place_in, places_in, action_of, Accepts, RoomMade, Holding, NewestAt, PartFits, part_back};
 
 use client::first_waiting;
-use codec::{Waiting, clear, copy_bytes, get_u32, is_zero, move_down, put_byte, put_u32};
+use codec::{clear, copy_bytes, get_u32, is_zero, move_down, put_byte, put_u32};
 use hall::{endpoint_at, entry_count, find_view, read_recorder, recorder_at, view_count};
-use model::kind_numbers;
+use model::kinds::Kind;
 use store::layout;
 
 // How many slots there are.
@@ -52,13 +53,9 @@ fn valid_part(u: &[u8], at: usize, room: usize) -> bool
 {
     let offset = get_u32(u, at) as usize;
     let size = get_u32(u, at + PART_LENGTH) as usize;
-    if room < size {
-        return false;
-    }
-    if layout::LENGTH < offset + size {
-        return false;
-    }
-    is_zero(u, at + PART_BYTES + size, at + PART_BYTES + room)
+    size <= room
+        && offset + size <= layout::LENGTH
+        && is_zero(u, at + PART_BYTES + size, at + PART_BYTES + room)
 }
 
 // Is there a slot at an offset? Its words may be any.
@@ -74,17 +71,10 @@ fn valid_slots(u: &[u8], m: usize) -> bool
     requires { (m ≤ max_slots) × (undo_length ≤ length u.now) }
     ensures { result ≡ (cells slot_form m max_slots).valid (part 1 (max_slots * slot_size) u.now) }
 {
-    let mut i = 0;
-    while i < m {
-        if !valid_slot(u, 1 + i * SLOT) {
-            return false;
-        }
-        i += 1;
-    }
-    is_zero(u, 1 + m * SLOT, LENGTH)
+    (0..m).all(|i| valid_slot(u, 1 + i * SLOT)) && is_zero(u, 1 + m * SLOT, LENGTH)
 }
 
-// Is the slice an undo buffer?
+// Is the slice an undo buffer? The bytes are the caller's (docs/undo-buffer.md): this stands in contracts, not in a type.
 pub fn is_undo(u: &[u8]) -> bool
     ensures { result ≡ is_undo u.now }
 {
@@ -92,10 +82,7 @@ pub fn is_undo(u: &[u8]) -> bool
         return false;
     }
     let m = u[0] as usize;
-    if SLOTS < m {
-        return false;
-    }
-    valid_slots(u, m)
+    m <= SLOTS && valid_slots(u, m)
 }
 
 // How many slots are held.
@@ -107,38 +94,66 @@ pub fn count(u: &[u8]) -> usize
     u[0] as usize
 }
 
-// The two parts of a hall's bytes that an action writes: where each stands, and how many bytes it has.
+// Where a part of a hall's bytes stands, and how many bytes it has.
 #[derive(Clone, Copy)]
-struct Parts {
-    first: usize,
-    first_size: usize,
-    second: usize,
-    second_size: usize,
+struct Place {
+    offset: usize,
+    size: usize,
 }
 
-// 1: the new entry's cell, and the count of entries.
-fn new_entry(b: &[u8]) -> Parts
-    requires { is_stored b.now ≡ true }
-    ensures { places_in result ≡ entry_grown (hall_of b.now) }
-{
-    Parts {
-        first: layout::ENTRIES + entry_count(b) * layout::ENTRY,
-        first_size: layout::ENTRY,
-        second: layout::ENTRY_COUNT,
-        second_size: 1,
+impl Place {
+    // The cell at an index of a table: where the table's cells begin, and the size of each.
+    fn cell(cells: usize, size: usize, i: usize) -> Place
+        requires { cells + i * size ≤ stored_length }
+        ensures { place_in result ≡ place_at (cells + i * size) size }
+    {
+        Place {
+            offset: cells + i * size,
+            size,
+        }
+    }
+
+    // Recorder r.
+    fn recorder(r: u32) -> Place
+        requires { (1 ≤ r) × (r ≤ max_recorders) }
+        ensures { place_in result ≡ recorder_place r }
+    {
+        Place {
+            offset: recorder_at(r),
+            size: layout::RECORDER,
+        }
+    }
+
+    // Recorder r's place in view g.
+    fn endpoint(b: &[u8], r: u32, g: u32) -> Place
+        requires { HasRecorder b.now r × (has (hall_of b.now).service.created g ≡ true) }
+        ensures { place_in result ≡ endpoint_place (hall_of b.now) r g }
+    {
+        Place {
+            offset: endpoint_at(r, find_view(b, g)),
+            size: layout::ENDPOINT,
+        }
     }
 }
 
-// 5: the new view's cell, and the count of views.
-fn new_view(b: &[u8]) -> Parts
-    requires { is_stored b.now ≡ true }
-    ensures { places_in result ≡ view_grown (hall_of b.now) }
+// The two parts of a hall's bytes that an action writes.
+#[derive(Clone, Copy)]
+struct Parts {
+    first: Place,
+    second: Place,
+}
+
+// 1 and 5: the cell behind the n in use of a table of cells, and the byte where they are counted.
+fn grown(cells: usize, size: usize, n: usize, counted: usize) -> Parts
+    requires { cells + n * size ≤ stored_length }
+    ensures { places_in result ≡ both (place_at (cells + n * size) size) (place_at counted 1) }
 {
     Parts {
-        first: layout::VIEWS + view_count(b) * layout::VIEW,
-        first_size: layout::VIEW,
-        second: layout::VIEW_COUNT,
-        second_size: 1,
+        first: Place::cell(cells, size, n),
+        second: Place {
+            offset: counted,
+            size: 1,
+        },
     }
 }
 
@@ -148,10 +163,7 @@ fn waiting_index(b: &[u8], r: u32) -> usize
     ensures value { result ≡ waiting_index (hall_of b.now) r }
     ensures small { result < max_entries }
 {
-    match first_waiting(b, r) {
-        Waiting::Found(e) => e as usize - 1,
-        Waiting::Nothing => 0,
-    }
+    first_waiting(b, r).map_or(0, |e| e as usize - 1)
 }
 
 // 2: recorder r, and the cell of the first entry that waits there.
@@ -159,12 +171,9 @@ fn recorder_and_entry(b: &[u8], r: u32) -> Parts
     requires { HasRecorder b.now r }
     ensures { places_in result ≡ in_label (hall_of b.now) r }
 {
-    let i = waiting_index(b, r);
     Parts {
-        first: recorder_at(r),
-        first_size: layout::RECORDER,
-        second: layout::ENTRIES + i * layout::ENTRY,
-        second_size: layout::ENTRY,
+        first: Place::recorder(r),
+        second: Place::cell(layout::ENTRIES, layout::ENTRY, waiting_index(b, r)),
     }
 }
 
@@ -173,13 +182,9 @@ fn recorder_and_endpoint(b: &[u8], r: u32) -> Parts
     requires { HasRecorder b.now r × ((hall_of b.now).service.current r ≡ 0 → ⊥) }
     ensures { places_in result ≡ in_current (hall_of b.now) r }
 {
-    let x = read_recorder(b, r);
-    let i = find_view(b, x.current);
     Parts {
-        first: recorder_at(r),
-        first_size: layout::RECORDER,
-        second: endpoint_at(r, i),
-        second_size: layout::ENDPOINT,
+        first: Place::recorder(r),
+        second: Place::endpoint(b, r, read_recorder(b, r).current),
     }
 }
 
@@ -189,10 +194,8 @@ fn recorder_alone(r: u32) -> Parts
     ensures { places_in result ≡ alone r }
 {
     Parts {
-        first: recorder_at(r),
-        first_size: layout::RECORDER,
-        second: 0,
-        second_size: 0,
+        first: Place::recorder(r),
+        second: Place { offset: 0, size: 0 },
     }
 }
 
@@ -201,70 +204,73 @@ fn queue_and_endpoint(b: &[u8], r: u32, a: u32) -> Parts
     requires { HasRecorder b.now r × (has (hall_of b.now).service.created a ≡ true) }
     ensures { places_in result ≡ in_queue (hall_of b.now) r a }
 {
-    let i = find_view(b, a);
     Parts {
-        first: layout::QUEUES + i * layout::QUEUE,
-        first_size: layout::QUEUE,
-        second: endpoint_at(r, i),
-        second_size: layout::ENDPOINT,
+        first: Place::cell(layout::QUEUES, layout::QUEUE, find_view(b, a)),
+        second: Place::endpoint(b, r, a),
     }
 }
 
 // The parts of an action that is accepted.
-fn parts_of(b: &[u8], k: u32, r: u32, a: u32, d: u32) -> Parts
-    requires { Accepts b.now (words_of k r a d) }
-    ensures { places_in result ≡ parts b.now (words_of k r a d) }
+fn parts_of(b: &[u8], k: Kind, r: u32, a: u32, d: u32) -> Parts
+    requires { Accepts b.now (words_of (kind_number k) r a d) }
+    ensures { places_in result ≡ parts b.now (words_of (kind_number k) r a d) }
 {
     match k {
-        kind_numbers::SUBMIT => new_entry(b),
-        kind_numbers::LABEL => recorder_and_entry(b, r),
-        kind_numbers::SEND_ENTRY => recorder_and_endpoint(b, r),
-        kind_numbers::SEND_SUMMARY => recorder_and_endpoint(b, r),
-        kind_numbers::FORM => new_view(b),
-        kind_numbers::ENTER => recorder_alone(r),
-        kind_numbers::PLACE => queue_and_endpoint(b, r, a),
-        kind_numbers::RECEIVE => recorder_and_endpoint(b, r),
-        kind_numbers::NOTICE => recorder_and_endpoint(b, r),
-        kind_numbers::CONFIRM => recorder_alone(r),
-        // kind_numbers::DELIVER
-        _ => recorder_alone(r),
+        Kind::Submit => grown(
+            layout::ENTRIES,
+            layout::ENTRY,
+            entry_count(b),
+            layout::ENTRY_COUNT,
+        ),
+        Kind::Label => recorder_and_entry(b, r),
+        Kind::SendEntry | Kind::SendSummary | Kind::Receive | Kind::Notice => recorder_and_endpoint(
+            b, r,
+        ),
+        Kind::Form => grown(
+            layout::VIEWS,
+            layout::VIEW,
+            view_count(b),
+            layout::VIEW_COUNT,
+        ),
+        Kind::Enter | Kind::Confirm | Kind::Deliver => recorder_alone(r),
+        Kind::Place => queue_and_endpoint(b, r, a),
     }
 }
 
 // Writes a part of a hall's bytes into a buffer at an offset, where it has room for so many bytes: its offset, its length, its
 // bytes, and zeros.
-fn put_part(u: &mut [u8], at: usize, room: usize, b: &[u8], offset: usize, size: usize)
+fn put_part(u: &mut [u8], at: usize, room: usize, b: &[u8], p: Place)
     requires room_le_recorder_size { (room ≤ recorder_size) × (at + part_size room ≤ length u.old) }
-    requires size_le_room { (size ≤ room) × (offset + size ≤ stored_length) × (stored_length ≤ length b.now) }
+    requires size_le_room { (p.size ≤ room) × (p.offset + p.size ≤ stored_length) × (stored_length ≤ length b.now) }
     ensures { u.new
-        ≡ sets u.old at ((part_form room).encode (part_of b.now (place_at offset size))) }
+        ≡ sets u.old at ((part_form room).encode (part_of b.now (place_in p))) }
 {
-    put_u32(u, at, offset as u32);
-    put_u32(u, at + PART_LENGTH, size as u32);
-    copy_bytes(u, at + PART_BYTES, b, offset, size);
-    clear(u, at + PART_BYTES + size, at + PART_BYTES + room);
+    put_u32(u, at, p.offset as u32);
+    put_u32(u, at + PART_LENGTH, p.size as u32);
+    copy_bytes(u, at + PART_BYTES, b, p.offset, p.size);
+    clear(u, at + PART_BYTES + p.size, at + PART_BYTES + room);
 }
 
 // Writes the words of an action at an offset.
-fn put_words(u: &mut [u8], at: usize, k: u32, r: u32, a: u32, b: u32)
+fn put_words(u: &mut [u8], at: usize, k: Kind, r: u32, a: u32, b: u32)
     requires { at + words_size ≤ length u.old }
-    ensures { u.new ≡ sets u.old at (words_form.encode (words_of k r a b)) }
+    ensures { u.new ≡ sets u.old at (words_form.encode (words_of (kind_number k) r a b)) }
 {
-    put_u32(u, at, k);
+    put_u32(u, at, u32::from(k));
     put_u32(u, at + layout::WORD, r);
     put_u32(u, at + 2 * layout::WORD, a);
     put_u32(u, at + 3 * layout::WORD, b);
 }
 
 // Writes the slot of an action that is accepted at an offset.
-fn put_slot(u: &mut [u8], at: usize, b: &[u8], k: u32, r: u32, a: u32, d: u32)
-    requires { Accepts b.now (words_of k r a d) × (at + slot_size ≤ length u.old) }
-    ensures { u.new ≡ sets u.old at (slot_form.encode (slot_of b.now (words_of k r a d))) }
+fn put_slot(u: &mut [u8], at: usize, b: &[u8], k: Kind, r: u32, a: u32, d: u32)
+    requires { Accepts b.now (words_of (kind_number k) r a d) × (at + slot_size ≤ length u.old) }
+    ensures { u.new ≡ sets u.old at (slot_form.encode (slot_of b.now (words_of (kind_number k) r a d))) }
 {
     let p = parts_of(b, k, r, a, d);
     put_words(u, at, k, r, a, d);
-    put_part(u, at + FIRST, layout::RECORDER, b, p.first, p.first_size);
-    put_part(u, at + SECOND, layout::ENDPOINT, b, p.second, p.second_size);
+    put_part(u, at + FIRST, layout::RECORDER, b, p.first);
+    put_part(u, at + SECOND, layout::ENDPOINT, b, p.second);
 }
 
 // Makes room for one slot more, and says at which index: of 16 the oldest is pushed out.
@@ -281,9 +287,9 @@ fn make_room(u: &mut [u8]) -> usize
 }
 
 // Holds an action that is accepted on the hall in b, before it is performed.
-pub fn hold(u: &mut [u8], b: &[u8], k: u32, r: u32, a: u32, d: u32)
-    requires { (is_undo u.old ≡ true) × Accepts b.now (words_of k r a d) }
-    ensures { u.new ≡ pushed u.old (slot_of b.now (words_of k r a d)) }
+pub fn hold(u: &mut [u8], b: &[u8], k: Kind, r: u32, a: u32, d: u32)
+    requires { (is_undo u.old ≡ true) × Accepts b.now (words_of (kind_number k) r a d) }
+    ensures { u.new ≡ pushed u.old (slot_of b.now (words_of (kind_number k) r a d)) }
 {
     let n = make_room(u);
     put_slot(u, 1 + n * SLOT, b, k, r, a, d);

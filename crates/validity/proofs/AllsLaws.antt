@@ -1,19 +1,15 @@
--- Loops that test each number of a list. Assumes nothing.
+-- What `all` comes to on lists, and on the views from an index on. Assumes nothing.
 use Prim.Native.Nat.{ℕ, suc, ◌+◌, ◌-◌, ◌*◌, ◌≤◌, ◌<◌}
 use native.Mathlib.Omega.{arith}
-use native.Mathlib.Numerals.{add-one}
 use mathlib.Core.Path.{◌≡◌, refl, sym, ap, ap₂, ◌∙◌}
 use mathlib.Core.Bool.{Bool, true, false, ◌&&◌, and-eq-true_iff, and_assoc, and-true, false≢true}
 use mathlib.Core.Logic.{⊎_elim}
 use mathlib.Core.List.{List, [], ◌∷◌, ◌++◌}
-use lib.ListN.{length, get_or}
 use Rattle.base.specs.Lists.{has, all}
 use Rattle.base.specs.Numbers.{up_to}
 use Rattle.base.proofs.Bools.{by_cases}
 use Rattle.base.proofs.ListsLaws.{has-head, has-later, has-cons}
 use Rattle.base.proofs.NumbersLaws.{has-up_to}
-use Rattle.codec.specs.Bytes.{part}
-use Rattle.codec.proofs.BytesLaws.{part-rest}
 use Rattle.store.specs.Layout.{view_size, view_cells}
 use Rattle.ranges.specs.TableParts.{view_numbers, view_at}
 
@@ -45,47 +41,15 @@ module _ (p : ℕ → Bool) where
   all_true [] h = refl
   all_true (x ∷ xs) h = ap₂ ◌&&◌ (h x (has-head x xs)) (all_true xs (λ y k. h y (has-later x xs y k)))
 
-  -- a loop over 1 .. m that has passed j numbers
-  pub all_none : all p (up_to 0) ≡ true
-  unfolding all up_to
-  all_none = refl
-
-  pub all-step : (j : ℕ) → all p (up_to (j + 1)) ≡ all p (up_to j) && p (j + 1)
-  unfolding all up_to
-  all-step j =
-      ap (λ (i : ℕ). all p (up_to i)) (add-one j)
-      ∙ all_append (up_to j) (suc j ∷ [])
-      ∙ ap (λ (t : Bool). all p (up_to j) && t) (and-true (p (suc j)) ∙ ap p (sym (add-one j)))
-
-  pub all-next : (j : ℕ) → all p (up_to j) ≡ true → p (j + 1) ≡ true → all p (up_to (j + 1)) ≡ true
-  all-next j a h = all-step j ∙ ap₂ ◌&&◌ a h
-
   pub all-fail : (m j : ℕ) → j < m → p (j + 1) ≡ false → all p (up_to m) ≡ false
   all-fail m j l h =
       by_cases (all p (up_to m))
       (λ a. absurd (false≢true (sym h ∙ all-at (up_to m) (j + 1) a (has-up_to m (j + 1) (omega arith) (omega arith)))))
       (λ a. a)
 
-  pub all_done : (m j : ℕ) → j ≤ m → m ≤ j → all p (up_to j) ≡ true → all p (up_to m) ≡ true
-  all_done m j h k a =
-      let e : m ≡ j = omega arith in
-      ap (λ (i : ℕ). all p (up_to i)) e ∙ a
-
-  -- a loop over the bytes from i up to t
-  module _ (t : ℕ) (b : List ℕ) where
-    pub part_none : (i : ℕ) → t ≤ i → all p (part i (t - i) b) ≡ true
-    unfolding all
-    part_none i h =
-        let n : t - i ≡ 0 = omega arith in
-        ap (λ (j : ℕ). all p (part i j b)) n
-
-    pub part-more : (i : ℕ) → i < t → t ≤ length b → all p (part i (t - i) b) ≡ p (get_or b i 0) && all p (part (i + 1) (t - (i + 1)) b)
-    unfolding all
-    part-more i h k = ap (all p) (part-rest i t b h k)
-
--- a loop over the views
+-- the views from an index on
 module _ (m : ℕ) (b : List ℕ) where
-  -- the numbers from index i on
+  -- their numbers, from index i on
   abbrev pub views_from : ℕ → List ℕ
   views_from i = view_numbers (m - i) (view_cells + i * view_size) b
 

@@ -4,7 +4,7 @@ use native.Mathlib.Omega.{arith}
 use native.Mathlib.Numerals.{add-one}
 use mathlib.Core.Path.{◌≡◌, refl, sym, ap, ap₂, subst, ◌∙◌}
 use mathlib.Core.Bool.{Bool, true, false, ◌&&◌, false≢true}
-use mathlib.Core.List.{List, [], ◌∷◌, ◌++◌}
+use mathlib.Core.List.{List}
 use lib.Dec.{eqb, ltb}
 use lib.ListN.{length, get_or, take, drop, length-take, get_or-eq_default}
 use lib.Seq.{take-suc, get_or-take, get_or-drop}
@@ -22,7 +22,7 @@ use Rattle.std.specs.Range.{range_inclusive_start, range_inclusive_end, range_in
 use Rattle.std.proofs.iter.Yields.{nat_range_steps}
 use Rattle.std.proofs.iter.runs.Sources.{nat_range_inclusive_steps, range_listed, inclusive_listed}
 use Rattle.std.proofs.lemmas.Fn.{fold_over}
-use Rattle.base.specs.Lists.{has, all}
+use Rattle.base.specs.Lists.{all}
 use Rattle.base.specs.Numbers.{up_to, numbers}
 use Rattle.base.proofs.Bools.{by_cases}
 use Rattle.base.proofs.ListsLaws.{all-has, get-all}

@@ -165,7 +165,7 @@ module _ (b : List ℕ) (K : Held hall_fields b) (l : List ℕ) (M : Labels (raw
             ≡ (has (members (size_at b) (set_at b i)) s && message_marked l (sent_at b s i) x)
         other t = ap (λ (u : Bool). u && message_marked l ((raw b).summaries.sent s (view_at b i)) x) t ∙ sym (ap (λ (u : Bool). u && message_marked l (sent_at b s i) x) t)
 
-    -- a loop over the c messages from offset o: those from j on
+    -- the c messages from offset o: those from j on
     module _ (o c : ℕ) where
       abbrev pub queue_from : ℕ → Bool
       queue_from j = queue_names (raw b) (view_at b i) (decode_all queued_form (c - j) (drop (o + j * 2) b))

@@ -11,7 +11,7 @@ use Rattle.codec.specs.ByteList.{list_at}
 use Rattle.store.specs.Valid.{labelled_entry, queue_names, endpoint_cross}
 use Rattle.store.specs.Layout.{number_size, entry_label_at, entry_sequence_at, entry_size, entry_cells, summary_order_at, endpoint_sent_at, endpoint_summary_at}
 use Rattle.validity.specs.Marks.{byte_values, message_marked, sent_at, set_ok}
-use Rattle.validity.specs.RawHall.{Ranged, raw, size_at, view_count, set_at}
+use Rattle.validity.specs.RawHall.{Ranged, raw, size_at, set_at}
 
 -- the message x, 0 for the summary, is a labelled entry of es, or the summary is sent
 unfoldable pub named : Entries → Bool → ℕ → Bool
@@ -25,12 +25,6 @@ Labels es t = (sent : Bool) (x : ℕ) → message_marked t sent x ≡ named es s
 pub record Labelled (b t : List ℕ) : Type 0 where
   pub ranged : Ranged b
   pub labels : Labels (raw b).entries t
-
--- the same, and i is the index of a formed view
-pub record LabelledView (b t : List ℕ) (i : ℕ) : Type 0 where
-  pub ranged : Ranged b
-  pub labels : Labels (raw b).entries t
-  pub formed : i < view_count b
 
 -- the queued message at offset o, in the view at index i, is a member's and names what it may
 unfoldable pub queued_ok : List ℕ → List ℕ → ℕ → ℕ → Bool

@@ -3,19 +3,19 @@
 
 #![tactic(auto)]
 
-ghost use Rattle.std.specs.Prelude.{◌≡◌, not, ◌&&◌, ◌||◌, ◌+◌, ◌-◌, ◌*◌, ◌≤◌, ◌<◌, eqb, length};
+ghost use Rattle.std.specs.Prelude.{◌≡◌, not, ◌&&◌, ◌||◌, ◌+◌, ◌-◌, ◌*◌, ◌≤◌, ◌<◌, eqb, length, slice_index};
 ghost use Rattle.codec.specs.ByteList.{list_at};
 ghost use Rattle.base.specs.Lists.{has, all};
 ghost use Rattle.quorum.specs.Sets.{members};
 ghost use Rattle.base.specs.Numbers.{up_to};
-ghost use Rattle.model.specs.Hall.{max_entries, max_views, max_recorders};
+ghost use Rattle.model.specs.Hall.{max_entries, max_views, max_recorders, max_queue};
 ghost use Rattle.store.specs.Valid.{some_votes, recorder_cross, endpoint_cross, cross_rules};
 ghost use Rattle.store.specs.StoredForm.{is_stored};
-ghost use Rattle.store.specs.Layout.{queued_size, view_cells, entries_at, stored_length};
+ghost use Rattle.store.specs.Layout.{queues_at, queue_size, queued_size, view_cells, entries_at, stored_length};
 ghost use Rattle.ranges.specs.TableParts.{view_numbers, view_at};
 ghost use Rattle.validity.specs.Marks.{messages_from, message_marked, sent_at, set_ok, source_ok, heard_ok};
 ghost use Rattle.validity.specs.RawHall.{Ranged, raw, size_at, view_count, entry_count, set_at};
-ghost use Rattle.validity.specs.CrossParts.{Labels, Labelled, LabelledView};
+ghost use Rattle.validity.specs.CrossParts.{Labels, Labelled};
 ghost use Rattle.validity.specs.CrossParts.{apart, key_of, Keys, key_alone};
 ghost use Rattle.validity.specs.CrossParts.{queued_ok, summary_ok, queue_cross, view_cross};
 
@@ -54,7 +54,7 @@ fn names_all(b: &[u8], at: usize, unnamed: &[u8; MESSAGES], sent: bool) -> bool
     let start = messages_from(sent);
     b[from..end]
         .iter()
-        .fold(0u8, |any, x| any | unnamed[start + *x as usize])
+        .fold(0u8, |any, x| any | unnamed[start + usize::from(*x)])
         == 0
 }
 
@@ -210,19 +210,22 @@ fn names_queued(b: &[u8], i: usize, at: usize, unnamed: &[u8; MESSAGES]) -> bool
         )
 }
 
+// How many messages the queue of the view at index i has.
+fn queue_count(b: &[u8], i: usize) -> usize
+    requires { Ranged b.now × (i < view_count b.now) }
+    ensures count { result ≡ slice_index b.now (queues_at + i * queue_size) }
+    ensures most { result ≤ max_queue }
+{
+    b[layout::QUEUES + i * layout::QUEUE] as usize
+}
+
 // Are the queued messages of the view at index i those of members, naming labelled entries and sent summaries?
 fn names_queue(b: &[u8], i: usize, unnamed: &[u8; MESSAGES]) -> bool
-    requires { LabelledView b.now unnamed.now i }
+    requires { Labelled b.now unnamed.now × (i < view_count b.now) }
     ensures { result ≡ queue_cross (raw b.now) (view_at b.now i) }
 {
-    let at = layout::QUEUES + i * layout::QUEUE;
-    let count = b[at] as usize;
-    for j in 0..count {
-        if !names_queued(b, i, at + 1 + j * layout::QUEUED, unnamed) {
-            return false;
-        }
-    }
-    true
+    let from = layout::QUEUES + i * layout::QUEUE + 1;
+    (0..queue_count(b, i)).all(|j| names_queued(b, i, from + j * layout::QUEUED, unnamed))
 }
 
 // Does the summary of the endpoint at an offset, if it was sent, name labelled entries?
@@ -240,7 +243,7 @@ fn names_summary(b: &[u8], at: usize, unnamed: &[u8; MESSAGES]) -> bool
 
 // "Pending and queued messages, summaries .. are those of members of the view": recorder p in the view at index i.
 fn endpoint_cross(b: &[u8], i: usize, unnamed: &[u8; MESSAGES], p: usize) -> bool
-    requires { LabelledView b.now unnamed.now i × ((1 ≤ p) × (p ≤ size_at b.now)) }
+    requires { Labelled b.now unnamed.now × (i < view_count b.now) × ((1 ≤ p) × (p ≤ size_at b.now)) }
     ensures { result ≡ endpoint_cross (raw b.now) (view_at b.now i) p }
 {
     let at = layout::NETWORK + (p - 1) * layout::ROW + i * layout::ENDPOINT;
@@ -254,7 +257,7 @@ fn endpoint_cross(b: &[u8], i: usize, unnamed: &[u8; MESSAGES], p: usize) -> boo
 
 // The same for recorders 1 to n.
 fn endpoints_cross(b: &[u8], i: usize, unnamed: &[u8; MESSAGES], n: usize) -> bool
-    requires { LabelledView b.now unnamed.now i × (n ≡ size_at b.now) }
+    requires { Labelled b.now unnamed.now × (i < view_count b.now) × (n ≡ size_at b.now) }
     ensures { result ≡ all (endpoint_cross (raw b.now) (view_at b.now i)) (up_to n) }
 {
     (1..=n).all(|p| endpoint_cross(b, i, unnamed, p))

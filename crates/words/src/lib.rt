@@ -13,8 +13,8 @@ ghost use Rattle.model.specs.KindNumbers.{kind_meaning};
 ghost use Rattle.model.specs.RefusalNumbers.{number, refused_by};
 ghost use Rattle.words.specs.Words.{use_of, uses_of};
 
-use model::limits::MAX_RECORDERS;
 use model::kinds::Kind;
+use model::limits::MAX_RECORDERS;
 use model::refusals::Refusal;
 use quorum::wrong_row;
 
@@ -131,16 +131,22 @@ pub fn input_refusal(n: u32, k: Kind, r: u32, a: u32, b: u32) -> Result<(), Refu
     ensures { refused_by result ≡ input_refusal n (kind_meaning k) r a b }
 {
     let Uses(of_r, of_a, of_b) = uses_of(k);
-    refuse(wrong_recorder(n, of_r, r), Refusal::Recorder)?;
-    refuse(stray_word(of_a, a) | stray_word(of_b, b), Refusal::Unused)?;
-    refuse(wrong_number(of_a, a) | wrong_number(of_b, b), Refusal::ViewNumber)?;
-    refuse(wrong_set(n, of_a, a) | wrong_set(n, of_b, b), Refusal::Set)
+    let recorder = wrong_recorder(n, of_r, r);
+    let stray = stray_word(of_a, a) | stray_word(of_b, b);
+    let number = wrong_number(of_a, a) | wrong_number(of_b, b);
+    let set = wrong_set(n, of_a, a) | wrong_set(n, of_b, b);
+    refuse(recorder, Refusal::Recorder)?;
+    refuse(stray, Refusal::Unused)?;
+    refuse(number, Refusal::ViewNumber)?;
+    refuse(set, Refusal::Set)
 }
 
 // 16, and 41 "directly after 16" (02, A4), of an opening with a row of votes.
 pub fn opening_refusal(n: u32, founders: u32, row: [u32; 8]) -> Result<(), Refusal>
     ensures { refused_by result ≡ open_refusal (opening_of n founders row) }
 {
-    refuse(wrong_opening(n, founders), Refusal::Opening)?;
-    refuse(wrong_row(n, row), Refusal::Votes)
+    let size = wrong_opening(n, founders);
+    let votes = wrong_row(n, row);
+    refuse(size, Refusal::Opening)?;
+    refuse(votes, Refusal::Votes)
 }

@@ -13,8 +13,8 @@ returns-then-l-eq0 c =
     let full : length l.places ≡ list_capacity = search rules in
     sym (first-none l full (omega arith))
 
-pub returns : goal.returns
-returns c =
+pub returns-else-l-eq0 : goal.returns-else-l-eq0
+returns-else-l-eq0 c =
     let l = c.args.l in
     let full : length l.places ≡ list_capacity = search rules in
     sym (first_some l full (omega arith))

@@ -1,27 +1,16 @@
--- Each arm gives the length of its case. Assumes nothing.
+-- By the two cases. Assumes nothing.
 use native.Mathlib.Omega.{arith}
 use mathlib.Core.List.{[], ◌∷◌}
-use Rattle.model.specs.Listing.{decimal, answer_fields, ok-word, from-word, refused-word}
-use Rattle.answer.specs.Meaning.{meaning}
-use Rattle.text.proofs.FieldsLaws.{length_fields, length-close}
+use Rattle.model.specs.RefusalNumbers.{number}
+use Rattle.model.specs.Listing.{decimal, answer_fields, refused-word}
+use Rattle.text.proofs.FieldsLaws.{length_fields}
 use Rattle.listing.proofs.answer_len.Goals as goal
 
-pub returns-in-Done : goal.returns-in-Done
-unfolding meaning answer_fields ok-word
-returns-in-Done c = rw c.in-Done.is (omega (arith, length_fields ok-word [], length-close))
+pub returns-in-Ok : goal.returns-in-Ok
+returns-in-Ok c = rw c.in-Ok.is c.taken_len.ensures
 
-pub returns-in-Message : goal.returns-in-Message
-unfolding meaning answer_fields
-returns-in-Message c = rw c.in-Message.is c.message_len.ensures
-
-pub returns-in-From : goal.returns-in-From
-unfolding meaning answer_fields from-word
-returns-in-From c =
-    let s = c.in-From.s in
-    rw c.in-From.is (omega (arith, length_fields from-word (decimal s.sender ∷ decimal s.payload.value ∷ [])))
-
-pub returns-in-Refused : goal.returns-in-Refused
-unfolding meaning answer_fields refused-word
-returns-in-Refused c =
-    let k = c.in-Refused.k in
-    rw c.in-Refused.is (omega (arith, length_fields refused-word (decimal k ∷ [])))
+pub returns-in-Err : goal.returns-in-Err
+unfolding answer_fields refused-word
+returns-in-Err c =
+    let k = number c.in-Err.why in
+    rw c.in-Err.is (omega (arith, rw c.from.ensures at c.last_len.ensures, length_fields refused-word (decimal k ∷ [])))

@@ -1,12 +1,13 @@
--- `marshal::or_no_room` meets its contract. Assumes nothing.
-use borrow.Author.Tests.{eq-eqb, ne_eqb}
+-- By the two cases. Assumes nothing.
+use mathlib.Core.Path.{refl, ap, ◌∙◌}
 use Rattle.base.specs.Chains.{◌⨾◌}
+use Rattle.model.specs.RefusalNumbers.{refused_by}
+use Rattle.model.proofs.RefusalNumbersLaws.{ends}
 use Rattle.marshal.proofs.or_no_room.Goals as goal
 
-pub returns-then-number-eq0 : goal.returns-then-number-eq0
+pub returns-in-Ok : goal.returns-in-Ok
 unfolding ◌⨾◌
-returns-then-number-eq0 c = rw (eq-eqb _ 0 c.if-number-eq0.true, ◌⨾◌)
+returns-in-Ok c = rw c.in-Ok.is c.from.ensures
 
-pub returns-else-number-eq0 : goal.returns-else-number-eq0
-unfolding ◌⨾◌
-returns-else-number-eq0 c = rw (ne_eqb _ 0 c.if-number-eq0.false, ◌⨾◌)
+pub returns-in-Err : goal.returns-in-Err
+returns-in-Err c = rw c.in-Err.is (c.from-in-Err.ensures ∙ ends c.in-Err.why 18 refl)

@@ -1,28 +1,47 @@
--- By the first word's number. Assumes nothing.
-use mathlib.Core.Path.{sym, ◌∙◌}
-use Rattle.parsing.specs.Reading.{line_meaning}
+-- By the first word. Assumes nothing.
+use Rattle.std.proofs.Common.{◌≡◌, drop, None, Some, sym, ap, refl, subst, rules, arith, ◌∙◌}
+use Rattle.std.specs.Option.{MatchOption, unwrap_or}
 use Rattle.model.specs.Kinds.{kinds, last_kind}
-use Rattle.parsing.proofs.LinesAt.{line-hall, line-raw, line-kind, line-none, no_kind_lem, kind-range}
+use Rattle.story.specs.Fields.{fields_in}
+use Rattle.story.specs.Parsing.{line_from}
+use Rattle.scanning.specs.declared.FirstWord.{FirstWord}
+use Rattle.scanning.specs.Scanned.{first_number, InRange}
+use Rattle.parsing.specs.declared.Line.TheVariants as line
+use Rattle.parsing.specs.Reading.{line_meaning}
+use Rattle.parsing.proofs.LinesAt.{line-hall, line-raw, line-kind, line-other, action-line, opening-line}
 use Rattle.parsing.proofs.line_from.Goals as goal
-
-pub returns-then-k-eq-HALL : goal.returns-then-k-eq-HALL
-returns-then-k-eq-HALL c = c.opening_line.ensures ∙ sym (line-hall _ _ c.if-k-eq-HALL.true)
-
-pub returns-then-k-eq-RAW : goal.returns-then-k-eq-RAW
-returns-then-k-eq-RAW c = c.raw_line.ensures ∙ sym (line-raw _ _ c.if-k-eq-HALL.false c.if-k-eq-RAW.true)
-
-pub returns-then-is_outside : goal.returns-then-is_outside
-unfolding line_meaning last_kind kinds
-returns-then-is_outside c = sym (line-none _ _ c.if-k-eq-HALL.false c.if-k-eq-RAW.false (no_kind_lem _ (sym c.is_outside.ensures ∙ c.if-is_outside.true)))
-
-pub kind_line-requires : goal.kind_line-requires
-unfolding last_kind kinds
-kind_line-requires c =
-    let r = kind-range c.args.k (sym c.is_outside.ensures ∙ c.if-is_outside.false) in
-    (r.0, r.1, c.requires)
+use Rattle.parsing.proofs.line_from.Goals.{in-Kind, in-Raw, in-Hall, in-Other}
 
 pub returns : goal.returns
 unfolding last_kind kinds
 returns c =
-    let r = kind-range c.args.k (sym c.is_outside.ensures ∙ c.if-is_outside.false) in
-    c.kind_line.ensures ∙ sym (line-kind _ _ c.if-k-eq-HALL.false c.if-k-eq-RAW.false r.0 r.1)
+    let fs = fields_in (drop c.args.at c.args.text.now) in
+    ap line_meaning c.unwrap_or.ensures
+    ∙ elim c.match-first.branch [
+      | in-Kind w ↦
+          let r = subst InRange w.in-Kind.is c.requires.word in
+          let m : MatchOption w.kind_action.result (w.map-line.result ≡ None) (λ x. w.map-line.result ≡ Some (line.Action x)) = search rules in
+          (λ i. line_meaning (unwrap_or (w.line-is i) (line.Wrong ((c.number.ensures ∙ ap first_number w.first-is) i))))
+          ∙ action-line w.kind_action.result w.map-line.result w.in-Kind.k m
+          ∙ w.kind_action.ensures
+          ∙ sym (line-kind w.in-Kind.k fs (λ e. omega (arith, r)) (λ e. omega (arith, r)) r.0 r.1)
+          ∙ ap (λ (f : FirstWord). line_from (first_number f) fs) (sym w.in-Kind.is)
+      | in-Raw w ↦
+          let m : MatchOption w.raw_action.result (w.map-line-in-Raw.result ≡ None) (λ x. w.map-line-in-Raw.result ≡ Some (line.Action x)) = search rules in
+          (λ i. line_meaning (unwrap_or (w.line-is i) (line.Wrong ((c.number.ensures ∙ ap first_number (w.first-is ∙ w.in-Raw.is)) i))))
+          ∙ action-line w.raw_action.result w.map-line-in-Raw.result 254 m
+          ∙ w.raw_action.ensures
+          ∙ sym (line-raw 254 fs (λ e. omega arith) refl)
+          ∙ ap (λ (f : FirstWord). line_from (first_number f) fs) (sym w.in-Raw.is)
+      | in-Hall w ↦
+          let m : MatchOption w.opening.result (w.map-line-in-Hall.result ≡ None) (λ x. w.map-line-in-Hall.result ≡ Some (line.Opening x)) = search rules in
+          (λ i. line_meaning (unwrap_or (w.line-is i) (line.Wrong ((c.number.ensures ∙ ap first_number (w.first-is ∙ w.in-Hall.is)) i))))
+          ∙ opening-line w.opening.result w.map-line-in-Hall.result m
+          ∙ w.opening.ensures
+          ∙ sym (line-hall 255 fs refl)
+          ∙ ap (λ (f : FirstWord). line_from (first_number f) fs) (sym w.in-Hall.is)
+      | in-Other w ↦
+          (λ i. line_meaning (unwrap_or (w.line-is i) (line.Wrong ((c.number.ensures ∙ ap first_number (w.first-is ∙ w.in-Other.is)) i))))
+          ∙ line-other fs
+          ∙ ap (λ (f : FirstWord). line_from (first_number f) fs) (sym w.in-Other.is)
+    ]

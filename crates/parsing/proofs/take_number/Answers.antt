@@ -1,10 +1,7 @@
--- The field, read. Assumes nothing.
+-- Assumes nothing.
+use Rattle.std.proofs.Common.{rules}
 use Rattle.story.specs.Numbers.{number_of}
-use Rattle.parsing.proofs.LinesAt.{taken}
 use Rattle.parsing.proofs.take_number.Goals as goal
 
 pub returns : goal.returns
-returns c =
-    let a = c.args in
-    let s = c.next_field-f in
-    taken a.text.now a.at s.result.from s.result.to s.ensures number_of c.number_of-x.result c.number_of-x.ensures
+returns c = c.take_field.ensures number_of (λ f x p. search rules)

@@ -9,35 +9,32 @@ use Rattle.printing.proofs.FieldsLaws.{room-first, room-rest, room_as, wrote_as}
 use Rattle.printing.proofs.ActionLaws.{kind-parts}
 use Rattle.printing.proofs.put_kind_line.Goals as goal
 
-pub put_kind_word-after_word-requires : goal.put_kind_word-after_word-requires
-put_kind_word-after_word-requires c =
+pub put_word-after_word-requires : goal.put_word-after_word-requires
+put_word-after_word-requires c =
     let a = c.args in
     let w = words_of a.k a.r a.a a.b in
-    record {
-      le_k = c.requires.le_k;
-      room = room-first (spaced (kind_fields w) ++ (10 ∷ [])) (room_as (kind-parts w) c.requires.room);
-    }
+    room_as (sym c.kind_word.ensures) (room-first (spaced (kind_fields w) ++ (10 ∷ [])) (room_as (kind-parts w) c.requires.room))
 
-pub put_args-after_args-requires : goal.put_args-after_args-requires
-put_args-after_args-requires c =
+pub put_args-after_args-requires-clause-room : goal.put_args-after_args-requires-clause-room
+put_args-after_args-requires-clause-room c =
     let a = c.args in
     let w = words_of a.k a.r a.a a.b in
-    record {
-      le_k = c.requires.le_k;
-      room = room-first (10 ∷ []) (room-rest c.put_kind_word-after_word.ensures (room_as (kind-parts w) c.requires.room));
-    }
+    let word = wrote_as c.kind_word.ensures c.put_word-after_word.ensures in
+    room-first (10 ∷ []) (room-rest word (room_as (kind-parts w) c.requires.room))
 
 pub put_word-requires : goal.put_word-requires
 put_word-requires c =
     let a = c.args in
     let w = words_of a.k a.r a.a a.b in
-    room-rest c.put_args-after_args.ensures (room-rest c.put_kind_word-after_word.ensures (room_as (kind-parts w) c.requires.room))
+    let word = wrote_as c.kind_word.ensures c.put_word-after_word.ensures in
+    room-rest c.put_args-after_args.ensures (room-rest word (room_as (kind-parts w) c.requires.room))
 
 pub returns : goal.returns
 returns c =
     let a = c.args in
     let w = words_of a.k a.r a.a a.b in
-    wrote_as (sym (kind-parts w)) (then c.put_kind_word-after_word.ensures (then {xs = spaced (kind_fields w)} c.put_args-after_args.ensures c.put_word.ensures))
+    let word = wrote_as c.kind_word.ensures c.put_word-after_word.ensures in
+    wrote_as (sym (kind-parts w)) (then word (then {xs = spaced (kind_fields w)} c.put_args-after_args.ensures c.put_word.ensures))
 
 pub shape_of-out : goal.shape_of-out
 shape_of-out c = wrote-length (returns c)

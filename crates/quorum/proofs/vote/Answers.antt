@@ -8,6 +8,5 @@ use Rattle.quorum.proofs.vote.Goals as goal
 
 pub returns : goal.returns
 returns c =
-    let s = c.before.before in
-    let a = s.args in
-    c.share.ensures ∙ ap (λ (v : ℕ). share (leb a.k a.n) v) (sym (row_at a.row.now a.k s.requires.0))
+    let a = c.args in
+    c.share.ensures ∙ ap (λ (v : ℕ). share (leb a.k a.n) v) (sym (row_at a.row.now a.k c.requires.0))

@@ -1,25 +1,14 @@
--- The line ends where it ends from `i` on. Assumes nothing.
-use borrow.Author.Rules.{rules}
-use native.Mathlib.Omega.{arith}
-use mathlib.Core.Path.{refl, ◌∙◌}
-use borrow.Author.Tests.{eq-eqb, ne_eqb}
-use Rattle.scanning.proofs.FieldsAt.{line_on, line-over, line-past}
+-- The line ends after its byte 10, or where the text ends. Assumes nothing.
+use Rattle.std.proofs.Common.{rules}
+use Rattle.scanning.proofs.FieldsAt.{line-found, line-unfound}
 use Rattle.scanning.proofs.line_end.Goals as goal
 
-pub loop-i-init : goal.loop-i-init
-loop-i-init c = (search rules, refl)
+pub returns-then-end-text : goal.returns-then-end-text
+returns-then-end-text c =
+    let e = c.find.ensures in
+    line-found c.args.text.now c.args.at c.find.result c.requires (record { within = e.within; passed = λ k p. let q = e.passed k p in search rules; stops = λ h. let q = e.stops h in search rules }) c.if-end-text.true
 
-pub returns-then-text-i-eq-NEWLINE : goal.returns-then-text-i-eq-NEWLINE
-returns-then-text-i-eq-NEWLINE c =
-    let a = c.args in
-    let i = c.loop-i.i in
-    omega (arith, c.loop-i.invariant.1, line-over a.text.now i (search rules) (eq-eqb _ 10 c.if-text-i-eq-NEWLINE.true))
-
-pub loop-i-preserved : goal.loop-i-preserved
-loop-i-preserved c =
-    let a = c.args in
-    let i = c.loop-i.i in
-    (search rules, c.loop-i.invariant.1 ∙ line_on a.text.now i (search rules) (ne_eqb _ 10 c.if-text-i-eq-NEWLINE.false))
-
-pub returns : goal.returns
-returns c = omega (arith, c.loop-i.invariant.1, line-past c.args.text.now c.loop-i.i (search rules))
+pub returns-else-end-text : goal.returns-else-end-text
+returns-else-end-text c =
+    let e = c.find.ensures in
+    line-unfound c.args.text.now c.args.at c.find.result c.requires (record { within = e.within; passed = λ k p. let q = e.passed k p in search rules; stops = λ h. let q = e.stops h in search rules }) c.if-end-text.false

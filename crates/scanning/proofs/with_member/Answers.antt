@@ -1,25 +1,18 @@
--- The set stays one of recorders 1 to 8. Assumes nothing.
-use native.Mathlib.Omega.{arith}
-use Prim.Native.Nat.{◌-◌}
+-- A byte that is no recorder, or one: then the set decides. Assumes nothing.
+use Rattle.std.proofs.Common.{◌-◌, not, sym, ap, ◌∙◌, arith, ⊎_elim}
 use Rattle.quorum.proofs.SetLaws.{one_shifted}
-use Rattle.story.proofs.SetsLaws.{member-small}
-use Rattle.scanning.proofs.ValuesAt.{joins-range}
+use Rattle.scanning.proofs.ValuesAt.{joins-low, joins-high, joins-digit}
 use Rattle.scanning.proofs.with_member.Goals as goal
 
-pub overflow_sub-i : goal.overflow_sub-i
-overflow_sub-i c = (joins-range c.args.mask c.args.b c.requires.1).0
+pub returns-then-b-lt49 : goal.returns-then-b-lt49
+returns-then-b-lt49 c = ⊎_elim (λ h. joins-low c.args.mask c.args.b h) (λ h. joins-high c.args.mask c.args.b h.1) c.then-b-lt49.either
 
-pub overflow_shl-result : goal.overflow_shl-result
-overflow_shl-result c = omega (arith, joins-range c.args.mask c.args.b c.requires.1)
-
-pub overflow_add-result : goal.overflow_add-result
-overflow_add-result c =
-    let a = c.args in
-    let r = joins-range a.mask a.b c.requires.1 in
-    omega (arith, one_shifted (a.b - 49) (omega arith), member-small a.mask a.b c.requires.0 c.requires.1)
+pub returns-then-in_mask : goal.returns-then-in_mask
+returns-then-in_mask c =
+    joins-digit c.args.mask c.args.b (omega arith) (omega arith) ∙ ap not (sym c.in_mask.ensures ∙ c.if-in_mask.true)
 
 pub returns : goal.returns
-returns c =
-    let a = c.args in
-    let r = joins-range a.mask a.b c.requires.1 in
-    omega (arith, one_shifted (a.b - 49) (omega arith))
+returns c = (
+  joins-digit c.args.mask c.args.b (omega arith) (omega arith) ∙ ap not (sym c.in_mask.ensures ∙ c.if-in_mask.false),
+  omega (arith, one_shifted (c.args.b - 49) (omega arith)),
+)

@@ -1,5 +1,5 @@
 -- 11, then 31. Assumes nothing.
-use mathlib.Core.Path.{sym, ap, ap₂, subst, ◌∙◌}
+use mathlib.Core.Path.{◌≡◌, sym, ap, ap₂, subst, ◌∙◌}
 use Rattle.std.specs.Prelude.{IfOk}
 use Rattle.std.specs.Result.{result_and}
 use Rattle.base.specs.Chains.{◌⨾◌}

@@ -16,4 +16,4 @@ pub step_kind-requires : goal.step_kind-requires
 step_kind-requires c = steps.early-passed _ _ c.in_ok-kind.ensures.number
 
 pub returns : goal.returns
-returns c = subst (λ j. Steps c.args.bytes.now j c.args.r c.args.a c.args.b _ _) c.in_ok-kind.ensures.kind c.step_kind.ensures
+returns c = subst (λ j. Steps c.args.bytes.now j c.args.r c.args.a c.args.b c.step_kind.result c.step_kind.new.bytes) c.in_ok-kind.ensures.kind c.step_kind.ensures

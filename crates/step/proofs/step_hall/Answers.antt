@@ -15,4 +15,4 @@ returns-in_err-kind c =
     steps.refused a.bytes.now a.k a.r a.a a.b 11 (steps.kind-is a.bytes.now a.k a.r a.a a.b e.0) _ (ap number e.1) c.from_residual.result c.from_residual.ensures.1
 
 pub returns : goal.returns
-returns c = subst (λ j. Steps c.args.bytes.now j c.args.r c.args.a c.args.b _ _) c.in_ok-kind.ensures.1 c.step_kind.ensures
+returns c = subst (λ j. Steps c.args.bytes.now j c.args.r c.args.a c.args.b c.step_kind.result c.step_kind.new.bytes) c.in_ok-kind.ensures.1 c.step_kind.ensures

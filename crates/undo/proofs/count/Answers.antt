@@ -7,9 +7,6 @@ use Rattle.undo.proofs.count.Goals as goal
 pub bounds-u-0 : goal.bounds-u-0
 bounds-u-0 c = omega (arith, long-enough c.args.u.now c.requires)
 
-pub overflow_cast-result : goal.overflow_cast-result
-overflow_cast-result c = omega (arith, c.type_inv.u 0)
-
 pub returns : goal.returns
 returns c =
     let u = c.args.u.now in

@@ -6,6 +6,7 @@ use mathlib.Core.List.{List}
 use lib.Seq.{sets}
 use Rattle.codec.proofs.NumberLaws.{digits-byte}
 use Rattle.model.specs.Call.{words_of}
+use Rattle.model.specs.KindNumbers.{kind_number}
 use Rattle.undo.specs.Parts.{slot_of}
 use Rattle.undo.proofs.PartsCover.{accepted-small, slot_ok}
 use Rattle.undo.proofs.Rooms.{long-enough}
@@ -13,21 +14,18 @@ use Rattle.undo.proofs.hold.Goals as goal
 
 pub put_slot-requires : goal.put_slot-requires
 put_slot-requires c =
-    let start = c in
-    (start.requires.1, omega (arith, long-enough start.args.u.now start.requires.0, c.make_room-n.ensures.few, c.make_room-n.auto.u))
+    (c.requires.1, omega (arith, long-enough c.args.u.now c.requires.0, c.make_room-n.ensures.few, c.make_room-n.auto.u))
 
 pub put_byte-requires : goal.put_byte-requires
 put_byte-requires c =
-    let start = c in
-    omega (arith, long-enough start.args.u.now start.requires.0, c.make_room-n.auto.u, c.put_slot.auto.u)
+    omega (arith, long-enough c.args.u.now c.requires.0, c.make_room-n.auto.u, c.put_slot.auto.u)
 
 pub returns : goal.returns
 returns c =
-    let start = c in
-    let a = start.args in
+    let a = c.args in
     let b = a.b.now in
-    let w = words_of a.k a.r a.a a.d in
-    let p = start.requires.1 in
+    let w = words_of (kind_number a.k) a.r a.a a.d in
+    let p = c.requires.1 in
     let low = accepted-small b p.holds w p.low p.accepts in
     let room = c.make_room-n in
     c.put_byte.ensures

@@ -14,13 +14,11 @@ returns-then-n-lt-SLOTS c =
 
 pub move_down-requires : goal.move_down-requires
 move_down-requires c =
-    let start = c in
-    (omega arith, omega (arith, long-enough start.args.u.now start.requires))
+    (omega arith, omega (arith, long-enough c.args.u.now c.requires))
 
 pub returns : goal.returns
 returns c =
-    let start = c in
-    let u = start.args.u.now in
-    room-made u start.requires
-    (omega (arith, (held-slots u start.requires).0, c.count-n.ensures.value, c.if-n-lt-SLOTS.false))
+    let u = c.args.u.now in
+    room-made u c.requires
+    (omega (arith, (held-slots u c.requires).0, c.count-n.ensures.value, c.if-n-lt-SLOTS.false))
     _ c.move_down.ensures

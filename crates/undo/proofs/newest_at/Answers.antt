@@ -1,17 +1,10 @@
 -- Behind the older ones. Assumes nothing.
 use Prim.Native.Nat.{ℕ, ◌+◌, ◌-◌, ◌*◌}
-use native.Mathlib.Omega.{arith}
 use mathlib.Core.Path.{subst, sym}
 use Rattle.undo.specs.Buffer.{slot_size}
 use Rattle.undo.specs.Code.{NewestAt}
 use Rattle.undo.proofs.Rooms.{newest-there}
 use Rattle.undo.proofs.newest_at.Goals as goal
-
-pub count-requires : goal.count-requires
-count-requires c = c.requires.form
-
-pub overflow_sub-result : goal.overflow_sub-result
-overflow_sub-result c = omega (arith, c.count.ensures.value, c.requires.some)
 
 pub returns : goal.returns
 returns c =

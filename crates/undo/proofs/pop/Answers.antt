@@ -11,29 +11,20 @@ use Rattle.undo.proofs.BufferLaws.{held-slots}
 use Rattle.undo.proofs.Rooms.{long-enough, pops}
 use Rattle.undo.proofs.pop.Goals as goal
 
-pub count-n-requires : goal.count-n-requires
-count-n-requires c = c.requires.form
-
-pub overflow_sub-n : goal.overflow_sub-n
-overflow_sub-n c = omega (arith, c.count-n.ensures.value, c.requires.some)
-
 pub clear-requires : goal.clear-requires
 clear-requires c =
-    let start = c in
-    let u = start.args.u.now in
+    let u = c.args.u.now in
     let n = c.count-n.ensures.value in
-    (omega arith, omega (arith, n, start.requires.some, (held-slots u start.requires.form).0, long-enough u start.requires.form))
+    (omega arith, omega (arith, n, c.requires.some, (held-slots u c.requires.form).0, long-enough u c.requires.form))
 
 pub put_byte-requires : goal.put_byte-requires
 put_byte-requires c =
-    let start = c in
-    let u = start.args.u.now in
-    omega (arith, long-enough u start.requires.form, c.clear.auto.b)
+    let u = c.args.u.now in
+    omega (arith, long-enough u c.requires.form, c.clear.auto.b)
 
 pub returns : goal.returns
 returns c =
-    let start = c in
-    let u = start.args.u.now in
+    let u = c.args.u.now in
     let n = c.count-n in
     let m = n.result in
     let few : m ≤ 16 = n.ensures.small in
@@ -42,4 +33,4 @@ returns c =
     ∙ ap₂ (λ (x y : List ℕ). sets x 0 y)
     (c.clear.ensures ∙ ap (λ (k : ℕ). sets u (1 + (m - 1) * slot_size) (zeros k)) one) (digits-byte (m - 1) (omega arith))
     ∙ ap (λ (k : ℕ). sets (sets u (1 + (k - 1) * slot_size) (zeros slot_size)) 0 ((k - 1) ∷ [])) n.ensures.value
-    ∙ pops u start.requires.form start.requires.some
+    ∙ pops u c.requires.form c.requires.some

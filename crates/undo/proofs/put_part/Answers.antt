@@ -8,21 +8,21 @@ use lib.Seq.{sets}
 use Rattle.codec.specs.Bytes.{part, zeros}
 use Rattle.codec.specs.Number.{digits}
 use Rattle.codec.proofs.PutBack.{part_length}
-use Rattle.undo.specs.Parts.{place_at, part_of}
+use Rattle.undo.specs.Parts.{part_of}
+use Rattle.undo.specs.Code.{place_in}
 use Rattle.undo.proofs.PartAt.{Bytes, bytes-part, part-written}
 use Rattle.undo.proofs.put_part.Goals as goal
 
 pub returns : goal.returns
 returns c =
-    let start = c in
-    let a = start.args in
+    let a = c.args in
     let b = a.b.now in
     let k : Bytes b = λ i. (c.type_inv.b i).fits in
-    let inside : a.offset + a.size ≤ length b = omega (arith, start.requires.size_le_room.1) in
+    let inside : a.p.offset + a.p.size ≤ length b = omega (arith, c.requires.size_le_room.1) in
     c.clear.ensures
-    ∙ ap (λ (z : List ℕ). sets z (a.at + 8 + a.size) (zeros (a.at + 8 + a.room - (a.at + 8 + a.size))))
+    ∙ ap (λ (z : List ℕ). sets z (a.at + 8 + a.p.size) (zeros (a.at + 8 + a.room - (a.at + 8 + a.p.size))))
     (c.copy_bytes.ensures
-    ∙ ap (λ (z : List ℕ). sets z (a.at + 8) (part a.offset a.size b))
+    ∙ ap (λ (z : List ℕ). sets z (a.at + 8) (part a.p.offset a.p.size b))
     (c.put_u32-2.ensures
-    ∙ ap (λ (z : List ℕ). sets z (a.at + 4) (digits 4 a.size)) c.put_u32.ensures))
-    ∙ part-written a.room (part_of b (place_at a.offset a.size)) (bytes-part a.offset a.size b inside k) a.u.now a.at a.size (part_length a.offset a.size b inside)
+    ∙ ap (λ (z : List ℕ). sets z (a.at + 4) (digits 4 a.p.size)) c.put_u32.ensures))
+    ∙ part-written a.room (part_of b (place_in a.p)) (bytes-part a.p.offset a.p.size b inside k) a.u.now a.at a.p.size (part_length a.p.offset a.p.size b inside)

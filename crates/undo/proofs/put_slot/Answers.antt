@@ -5,6 +5,7 @@ use mathlib.Core.Path.{ap, ap₂, ◌∙◌}
 use mathlib.Core.List.{List}
 use lib.Seq.{sets}
 use Rattle.model.specs.Call.{words_of}
+use Rattle.model.specs.KindNumbers.{kind_number}
 use Rattle.store.specs.Layout.{recorder_size, endpoint_size}
 use Rattle.store.proofs.StoredFormLaws.{is_stored-long}
 use Rattle.undo.specs.Buffer.{part_form}
@@ -13,48 +14,31 @@ use Rattle.undo.proofs.PartsCover.{parts-inside, parts-small, accepted-small, sl
 use Rattle.undo.proofs.SlotAt.{first_at, second_at, slot-written}
 use Rattle.undo.proofs.put_slot.Goals as goal
 
-pub put_part-requires : goal.put_part-requires
-put_part-requires c =
-    let start = c in
-    let a = start.args in
-    let b = a.b.now in
-    let p = start.requires.0 in
+pub put_part-requires-clause-size_le_room : goal.put_part-requires-clause-size_le_room
+put_part-requires-clause-size_le_room c =
+    let p = c.requires.0 in
     let e = c.parts_of-p.ensures in
     let size = ap (λ (q : Places). q.first.size) e in
-    let at = ap (λ (q : Places). q.first.offset) e in record {
-      room_le_recorder_size = (omega arith, omega (arith, start.requires.1, c.put_words.auto.u));
-      size_le_room = (
-        omega (arith, size, (parts-small b p.holds (words_of a.k a.r a.a a.d) p.low).0),
-        omega (arith, size, at, (parts-inside b p.holds (words_of a.k a.r a.a a.d) p.low).0),
-        is_stored-long b p.holds,
-      );
-    }
+    let at = ap (λ (q : Places). q.first.offset) e in
+    let w = words_of (kind_number c.args.k) c.args.r c.args.a c.args.d in
+    (omega (arith, size, (parts-small _ p.holds w p.low).0), omega (arith, size, at, (parts-inside _ p.holds w p.low).0), is_stored-long _ p.holds)
 
-pub put_part-requires-2 : goal.put_part-requires-2
-put_part-requires-2 c =
-    let start = c in
-    let a = start.args in
-    let b = a.b.now in
-    let p = start.requires.0 in
+pub put_part-requires-2-clause-size_le_room : goal.put_part-requires-2-clause-size_le_room
+put_part-requires-2-clause-size_le_room c =
+    let p = c.requires.0 in
     let e = c.parts_of-p.ensures in
     let size = ap (λ (q : Places). q.second.size) e in
-    let at = ap (λ (q : Places). q.second.offset) e in record {
-      room_le_recorder_size = (omega arith, omega (arith, start.requires.1, c.put_words.auto.u, c.put_part.auto.u));
-      size_le_room = (
-        omega (arith, size, (parts-small b p.holds (words_of a.k a.r a.a a.d) p.low).1),
-        omega (arith, size, at, (parts-inside b p.holds (words_of a.k a.r a.a a.d) p.low).1),
-        is_stored-long b p.holds,
-      );
-    }
+    let at = ap (λ (q : Places). q.second.offset) e in
+    let w = words_of (kind_number c.args.k) c.args.r c.args.a c.args.d in
+    (omega (arith, size, (parts-small _ p.holds w p.low).1), omega (arith, size, at, (parts-inside _ p.holds w p.low).1), is_stored-long _ p.holds)
 
 pub returns : goal.returns
 unfolding slot_of
 returns c =
-    let start = c in
-    let a = start.args in
+    let a = c.args in
     let b = a.b.now in
-    let w = words_of a.k a.r a.a a.d in
-    let p = start.requires.0 in
+    let w = words_of (kind_number a.k) a.r a.a a.d in
+    let p = c.requires.0 in
     let e = c.parts_of-p.ensures in
     let low = accepted-small b p.holds w p.low p.accepts in
     c.put_part-2.ensures

@@ -6,6 +6,5 @@ use Rattle.undo.proofs.valid_slot.Goals as goal
 
 pub returns : goal.returns
 returns c =
-    let start = c in
     ap₂ ◌&&◌ c.valid_part.ensures c.valid_part-2.ensures
-    ∙ sym (slot-valid start.args.at start.args.u.now start.requires (λ i. (c.type_inv.u i).fits))
+    ∙ sym (slot-valid c.args.at c.args.u.now c.requires (λ i. (c.type_inv.u i).fits))

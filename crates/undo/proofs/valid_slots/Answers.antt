@@ -1,33 +1,43 @@
--- The invariant: what is left gives what the whole gives. Assumes nothing.
+-- Each slot is tested, and then the other places. Assumes nothing.
 use borrow.Author.Rules.{rules}
-use native.Mathlib.Omega.{arith}
-use mathlib.Core.Path.{sym, ◌∙◌}
-use Rattle.ranges.proofs.Loops.{left-start, left-next, cells-fail, cells-done}
-use Rattle.undo.specs.Buffer.{slot_form, max_slots, undo_length}
+use Prim.Native.Nat.{ℕ, ◌+◌, ◌-◌, ◌*◌, ◌≤◌}
+use mathlib.Core.Bool.{Bool, ◌&&◌}
+use mathlib.Core.List.{List}
+use mathlib.Core.Path.{◌≡◌, refl, sym, ap, ◌∙◌}
+use Rattle.std.specs.List.{list_all, range_with_len}
+use Rattle.std.proofs.lemmas.Iterator.{YieldsList-from_range}
+use Rattle.std.proofs.lemmas.Iterator.Search.{all_from_yields_List}
+use Rattle.codec.specs.Bytes.{part, all_zero}
+use Rattle.codec.specs.Cells.{cells}
+use Rattle.ranges.proofs.Loops.{cells-list}
+use Rattle.undo.specs.Buffer.{slot_form, slot_size, max_slots, undo_length}
 use Rattle.undo.proofs.valid_slots.Goals as goal
 
-pub loop-i-init : goal.loop-i-init
-loop-i-init c =
-    let a = c.args in
-    (search rules, left-start slot_form 1 a.m a.u.now)
+module _ (u : List ℕ) where
+  abbrev valid : ℕ → Bool
+  valid i = slot_form.valid (part (1 + i * slot_size) slot_size u)
 
-pub returns-then-not-valid_slot : goal.returns-then-not-valid_slot
-returns-then-not-valid_slot c =
-    let a = c.args in
-    sym
-    (cells-fail slot_form 1 a.m a.u.now max_slots undo_length (search rules) (omega arith) c.loop-i.i c.loop-i-test.true
-    (sym c.valid_slot.ensures ∙ c.if-not-valid_slot.true) c.loop-i.invariant.1)
+  -- t tells whether each of the m slots is valid
+  by_slots : (m : ℕ) → m ≤ max_slots → (t : Bool) → t ≡ list_all valid (range_with_len 0 m)
+      → (t && all_zero (part (1 + m * slot_size) (undo_length - (1 + m * slot_size)) u)) ≡ (cells slot_form m max_slots).valid (part 1 (max_slots * slot_size) u)
+  by_slots m few t each =
+      ap (λ (t : Bool). t && all_zero (part (1 + m * slot_size) (undo_length - (1 + m * slot_size)) u)) each
+      ∙ cells-list slot_form 1 m u max_slots undo_length few refl
 
-pub loop-i-preserved : goal.loop-i-preserved
-loop-i-preserved c =
-    let a = c.args in (
-      search rules,
-      left-next slot_form 1 a.m a.u.now c.loop-i.i c.loop-i-test.true
-          (sym c.valid_slot.ensures ∙ c.if-not-valid_slot.false) c.loop-i.invariant.1,
-    )
-
-pub returns : goal.returns
-returns c =
-    let a = c.args in
+pub returns-then-all : goal.returns-then-all
+returns-then-all c =
+    let u = c.args.u.now in
+    let m = c.args.m in
     c.is_zero.ensures
-    ∙ sym (cells-done slot_form 1 a.m a.u.now max_slots undo_length (search rules) (omega arith) c.loop-i.i c.loop-i-test.false c.loop-i.invariant.1)
+    ∙ by_slots u m c.requires.0 _
+    (sym c.if-all.true
+    ∙ all_from_yields_List (valid u) _ _ c.all.result c.all.ensures.ran (YieldsList-from_range 0 m m refl (search rules)) (λ i r q k. search rules))
+
+pub returns-else-all : goal.returns-else-all
+returns-else-all c =
+    let u = c.args.u.now in
+    let m = c.args.m in
+    c.if-all.false
+    ∙ by_slots u m c.requires.0 _
+    (sym c.if-all.false
+    ∙ all_from_yields_List (valid u) _ _ c.all.result c.all.ensures.ran (YieldsList-from_range 0 m m refl (search rules)) (λ i r q k. search rules))

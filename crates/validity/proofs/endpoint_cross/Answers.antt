@@ -20,7 +20,7 @@ returns-then-is_member c =
     let l = a.unnamed.now in
     ap₂ ◌&&◌ (c.names_all.ensures ∙ ap (λ (t : Bool). all (message_marked l t) (list_at b (endpoint_off a.p a.i))) c.is_sent-sent.ensures) c.names_summary.ensures
     ∙ sym
-    (endpoint-member b h.0.ranged.held l h.0.labels a.i h.0.formed a.p h.1.0 h.1.1
+    (endpoint-member b h.0.ranged.held l h.0.labels a.i h.1 a.p h.2.0 h.2.1
     (ap (λ (z : ℕ). has (members (size_at b) z) a.p) (sym c.view_set.ensures) ∙ sym c.is_member.ensures ∙ c.if-is_member.true))
 
 pub returns-else-is_member : goal.returns-else-is_member
@@ -31,5 +31,5 @@ returns-else-is_member c =
     let l = a.unnamed.now in
     ap (λ (t : Bool). eqb (get_or b (endpoint_off a.p a.i) 0) 0 && not t) c.is_sent-sent.ensures
     ∙ sym
-    (endpoint-other b h.0.ranged.held l h.0.labels a.i h.0.formed a.p h.1.0 h.1.1
+    (endpoint-other b h.0.ranged.held l h.0.labels a.i h.1 a.p h.2.0 h.2.1
     (ap (λ (z : ℕ). has (members (size_at b) z) a.p) (sym c.view_set.ensures) ∙ sym c.is_member.ensures ∙ c.if-is_member.false))

@@ -6,5 +6,4 @@ use Rattle.validity.proofs.has_votes.Goals as goal
 
 pub returns : goal.returns
 returns c =
-    let s = c.before.before.before in
-    ap not c.is_zero.ensures ∙ some-votes s.args.b.now s.requires.held
+    ap not c.is_zero.ensures ∙ some-votes c.args.b.now c.requires.held

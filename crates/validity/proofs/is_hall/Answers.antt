@@ -12,16 +12,16 @@ pub cross_rules-requires : goal.cross_rules-requires
 cross_rules-requires c =
     let b = c.args.b.now in
     ranged b
-    (fields-held b c.if-b-lt-LENGTH.false (λ i. omega (arith, c.shared_slice_known-1.given i)) (sym c.in_range.ensures ∙ c.if-in_range.true))
+    (fields-held b c.if-b-lt-LENGTH.false (λ i. omega (arith, c.type_inv.b i)) (sym c.in_range.ensures ∙ c.if-in_range.true))
 
 pub returns-then-in_range : goal.returns-then-in_range
 returns-then-in_range c =
     c.cross_rules.ensures
     ∙ sym
-    (stored-cross c.args.b.now c.if-b-lt-LENGTH.false (λ i. omega (arith, c.shared_slice_known-1.given i)) (sym c.in_range.ensures ∙ c.if-in_range.true))
+    (stored-cross c.args.b.now c.if-b-lt-LENGTH.false (λ i. omega (arith, c.type_inv.b i)) (sym c.in_range.ensures ∙ c.if-in_range.true))
 
 pub returns-else-in_range : goal.returns-else-in_range
 returns-else-in_range c =
     c.if-in_range.false
     ∙ sym
-    (stored-range c.args.b.now c.if-b-lt-LENGTH.false (λ i. omega (arith, c.shared_slice_known-1.given i)) (sym c.in_range.ensures ∙ c.if-in_range.false))
+    (stored-range c.args.b.now c.if-b-lt-LENGTH.false (λ i. omega (arith, c.type_inv.b i)) (sym c.in_range.ensures ∙ c.if-in_range.false))

@@ -19,12 +19,6 @@ outside n k e = by_cases (leb 1 k) (λ t. inr (leb-false k n (ap (λ (u : Bool).
     none : k < 1 → k ≡ 0
     none h = omega arith
 
-pub overflow_cast-k : goal.overflow_cast-k
-overflow_cast-k c = let a = c.args in omega (arith, (inside a.n a.k c.if-k-n.true).1, c.requires)
-
-pub in_mask-requires : goal.in_mask-requires
-in_mask-requires c = let a = c.args in let i = inside a.n a.k c.if-k-n.true in (i.0, omega (arith, i.1, c.requires))
-
 pub returns-then-k-n : goal.returns-then-k-n
 returns-then-k-n c =
     let a = c.args in

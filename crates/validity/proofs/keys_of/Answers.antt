@@ -1,5 +1,4 @@
 -- The invariant: the array has the keys of the entries passed. Assumes nothing.
-use borrow.Author.Rules.{rules}
 use Prim.Native.Nat.{ℕ, ◌+◌, ◌*◌}
 use native.Mathlib.Omega.{arith}
 use native.Mathlib.Nat.{not-suc-le-zero}
@@ -11,7 +10,7 @@ use Rattle.validity.proofs.KeyLaws.{keys-next}
 use Rattle.validity.proofs.keys_of.Goals as goal
 
 pub loop-i-init : goal.loop-i-init
-loop-i-init c = (search rules, search rules, refl, λ j l. absurd (not-suc-le-zero l))
+loop-i-init c = (refl, λ j l. absurd (not-suc-le-zero l))
 
 pub loop-i-preserved : goal.loop-i-preserved
 loop-i-preserved c =
@@ -19,10 +18,8 @@ loop-i-preserved c =
     let b = a.b.now in
     let l = c.loop-i in
     let at : ℕ = entry_cells + l.i * entry_size in (
-      search rules,
-      search rules,
-      simp length-set l.invariant.2,
-      keys-next b l.keys l.i (omega arith) l.invariant.3 c.label_key.result
+      simp length-set l.invariant.0,
+      keys-next b l.keys l.i (omega arith) l.invariant.1 c.label_key.result
           (c.label_key.ensures ∙ ap (λ (v : ℕ). key_of v (get_or b (at + entry_sequence_at) 0) (get_or b at 0) l.i) c.get_u32-view.ensures),
     )
 
@@ -31,4 +28,4 @@ returns c =
     let a = c.args in
     let l = c.loop-i in
     let e : l.i ≡ a.m = omega arith in
-    subst (λ (n : ℕ). Keys a.b.now n l.keys) e l.invariant.3
+    subst (λ (n : ℕ). Keys a.b.now n l.keys) e l.invariant.1

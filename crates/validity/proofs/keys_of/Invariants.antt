@@ -1,5 +1,4 @@
 -- The invariant: the array has the keys of the entries passed. Assumes nothing.
-use Prim.Native.Nat.{◌-◌, ◌≤◌}
 use mathlib.Core.Path.{◌≡◌}
 use lib.ListN.{length}
 use Rattle.model.specs.Hall.{max_entries}
@@ -7,4 +6,4 @@ use Rattle.validity.specs.CrossParts.{Keys}
 use Rattle.validity.proofs.keys_of.Given as goal
 
 abbrev pub invariant-loop-i : goal.invariant-loop-i
-invariant-loop-i l = (l.i ≤ l.m) × (l.m ≤ max_entries) × (length l.keys ≡ max_entries) × Keys l.b l.i l.keys
+invariant-loop-i l = (length l.keys ≡ max_entries) × Keys l.b l.i l.keys

@@ -9,7 +9,6 @@ use lib.Dec.{eqb}
 use lib.ListN.{get_or}
 use Rattle.std.proofs.iter.Yields.{fronts, slice_gives}
 use Rattle.base.specs.Lists.{all}
-use Rattle.codec.specs.Bytes.{part}
 use Rattle.codec.specs.ByteList.{list_at}
 use Rattle.codec.proofs.Gathering.{or-zero}
 use Rattle.validity.specs.Marks.{messages_from, message_marked}

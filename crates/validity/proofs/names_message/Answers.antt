@@ -1,18 +1,11 @@
 -- The table's byte of the message. Assumes nothing.
 use Prim.Native.Nat.{ℕ, ◌+◌}
-use native.Mathlib.Omega.{arith}
 use mathlib.Core.Path.{ap, sym, ◌∙◌}
 use lib.Dec.{eqb}
 use lib.ListN.{get_or}
 use borrow.Author.Rules.{rules}
-use Rattle.validity.proofs.MarksLaws.{from-small, message-at}
+use Rattle.validity.proofs.MarksLaws.{message-at}
 use Rattle.validity.proofs.names_message.Goals as goal
-
-pub overflow_add-result : goal.overflow_add-result
-overflow_add-result c = omega (arith, c.messages_from.ensures, from-small c.args.sent)
-
-pub bounds-unnamed-messages_from : goal.bounds-unnamed-messages_from
-bounds-unnamed-messages_from c = omega (arith, c.messages_from.ensures, from-small c.args.sent)
 
 pub returns : goal.returns
 returns c =

@@ -1,53 +1,31 @@
--- The invariant: the messages left give what all give. Assumes nothing.
+-- Each message in turn. Assumes nothing.
 use borrow.Author.Rules.{rules}
-use Prim.Native.Nat.{◌+◌, ◌*◌}
+use Prim.Native.Nat.{ℕ, ◌+◌, ◌*◌}
 use native.Mathlib.Omega.{arith}
-use mathlib.Core.Path.{sym, ◌∙◌}
+use mathlib.Core.Path.{refl, sym, ◌∙◌}
+use mathlib.Core.Bool.{Bool}
 use lib.ListN.{get_or}
 use Rattle.store.specs.Layout.{queue_size, queues_at}
+use Rattle.validity.specs.CrossParts.{queued_ok}
 use Rattle.validity.proofs.RawCells.{queue-count}
-use Rattle.validity.proofs.CrossPartsLaws.{queue-all, queue-fail, queue-next, queue-done}
+use Rattle.validity.proofs.ChainLaws.{all-range, tells_rest}
+use Rattle.validity.proofs.CrossPartsLaws.{queue_from, queue-all, queue-fail, queue-next, queue-done}
 use Rattle.validity.proofs.names_queue.Goals as goal
-
-pub overflow_cast-count : goal.overflow_cast-count
-overflow_cast-count c = omega (arith, c.shared_slice_known-2-1.given (queues_at + c.args.i * queue_size))
-
-pub loop-j-init : goal.loop-j-init
-loop-j-init c =
-    let a = c.args in
-    let h = c.requires in (
-      search rules,
-      queue-count a.b.now h.ranged.held a.i h.formed,
-      queue-all a.b.now h.ranged.held a.unnamed.now h.labels a.i h.formed,
-    )
-
-pub returns-then-not-names_queued : goal.returns-then-not-names_queued
-returns-then-not-names_queued c =
-    let a = c.args in
-    let h = c.requires in
-    let b = a.b.now in
-    sym
-    (c.loop-j.invariant.2
-    ∙ queue-fail b h.ranged.held a.unnamed.now h.labels a.i h.formed (queues_at + a.i * queue_size + 1) (get_or b (queues_at + a.i * queue_size) 0) c.loop-j.j c.loop-j-test.true (omega arith)
-    (sym c.names_queued.ensures ∙ c.if-not-names_queued.true))
-
-pub loop-j-preserved : goal.loop-j-preserved
-loop-j-preserved c =
-    let a = c.args in
-    let h = c.requires in
-    let b = a.b.now in (
-      search rules,
-      search rules,
-      c.loop-j.invariant.2
-          ∙ queue-next b h.ranged.held a.unnamed.now h.labels a.i h.formed (queues_at + a.i * queue_size + 1) (get_or b (queues_at + a.i * queue_size) 0) c.loop-j.j c.loop-j-test.true (omega arith)
-          (sym c.names_queued.ensures ∙ c.if-not-names_queued.false),
-    )
 
 pub returns : goal.returns
 returns c =
     let a = c.args in
-    let h = c.requires in
     let b = a.b.now in
-    sym
-    (c.loop-j.invariant.2
-    ∙ queue-done b h.ranged.held a.unnamed.now h.labels a.i h.formed (queues_at + a.i * queue_size + 1) (get_or b (queues_at + a.i * queue_size) 0) c.loop-j.j c.loop-j-test.false)
+    let u = a.unnamed.now in
+    let h = c.requires in
+    let o : ℕ = queues_at + a.i * queue_size + 1 in
+    let n : ℕ = get_or b (queues_at + a.i * queue_size) 0 in
+    let t : ℕ → Bool = λ j. queued_ok u b a.i (o + j * 2) in
+    let most = queue-count b h.0.ranged.held a.i h.1 in
+    tells_rest t (queue_from b h.0.ranged.held u h.0.labels a.i h.1 o n) n
+    (λ j l. queue-next b h.0.ranged.held u h.0.labels a.i h.1 o n j l (omega (arith, most, h.0.ranged.fits)))
+    (λ j l. queue-fail b h.0.ranged.held u h.0.labels a.i h.1 o n j l (omega (arith, most, h.0.ranged.fits)))
+    (queue-done b h.0.ranged.held u h.0.labels a.i h.1 o n n (omega arith))
+    _
+    (all-range t (λ x v f k. search rules) 0 n _ _ refl c.queue_count.ensures.count c.all.ensures.runs)
+    ∙ sym (queue-all b h.0.ranged.held u h.0.labels a.i h.1)

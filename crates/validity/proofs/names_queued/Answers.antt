@@ -13,9 +13,6 @@ use Rattle.validity.proofs.CodeLaws.{queued-member, queued-other}
 use borrow.Author.Rules.{rules}
 use Rattle.validity.proofs.names_queued.Goals as goal
 
-pub overflow_cast-source : goal.overflow_cast-source
-overflow_cast-source c = omega (arith, c.shared_slice_known-2-1.given c.args.at)
-
 pub is_sent-requires : goal.is_sent-requires
 is_sent-requires c =
     let s = members-range _ _ _ (sym c.is_member.ensures ∙ c.if-is_member.true) in

@@ -1,5 +1,4 @@
 -- The invariant: the table has the labels of the entries passed. Assumes nothing.
-use borrow.Author.Rules.{rules}
 use Prim.Native.Nat.{ℕ, ◌*◌}
 use native.Mathlib.Omega.{arith}
 use mathlib.Core.Path.{◌≡◌, refl, subst}
@@ -12,15 +11,13 @@ use Rattle.validity.proofs.CodeLaws.{passed_mark, table-start, table-next, table
 use Rattle.validity.proofs.unnamed_of.Goals as goal
 
 pub loop-i-init : goal.loop-i-init
-loop-i-init c = (search rules, search rules, refl, table-start c.args.b.now (2 * byte_values) (lit≤ tt))
+loop-i-init c = (refl, table-start c.args.b.now (2 * byte_values) (lit≤ tt))
 
 pub loop-i-preserved : goal.loop-i-preserved
 loop-i-preserved c =
     let l = c.loop-i in (
-      search rules,
-      search rules,
-      simp length-set l.invariant.2,
-      table-next c.args.b.now l.unnamed l.i (omega arith) (omega arith) c.flag_byte-x.result l.invariant.3 c.flag_byte-x.ensures,
+      simp length-set l.invariant.0,
+      table-next c.args.b.now l.unnamed l.i (omega arith) (omega arith) c.flag_byte-x.result l.invariant.1 c.flag_byte-x.ensures,
     )
 
 pub returns : goal.returns
@@ -28,4 +25,4 @@ returns c =
     let b = c.args.b.now in
     let l = c.loop-i in
     let e : l.i ≡ get_or b entries_at 0 = omega arith in
-    table_done b l.unnamed c.requires.held (subst (λ (n : ℕ). (sent : Bool) (x : ℕ) → message_marked l.unnamed sent x ≡ passed_mark b n sent x) e l.invariant.3)
+    table_done b l.unnamed c.requires.held (subst (λ (n : ℕ). (sent : Bool) (x : ℕ) → message_marked l.unnamed sent x ≡ passed_mark b n sent x) e l.invariant.1)

@@ -1,6 +1,6 @@
 -- The queue, and the endpoints. Assumes nothing.
 use Prim.Native.Nat.{ℕ}
-use mathlib.Core.Path.{refl, sym, ap, ap₂, ◌∙◌}
+use mathlib.Core.Path.{sym, ap, ap₂, ◌∙◌}
 use mathlib.Core.Bool.{◌&&◌}
 use Rattle.base.specs.Numbers.{up_to}
 use Rattle.base.specs.Lists.{all}
@@ -16,9 +16,3 @@ returns c =
     ap₂ ◌&&◌ c.names_queue.ensures
     (c.endpoints_cross.ensures
     ∙ ap (λ (n : ℕ). all (endpoint_cross (raw b) (view_at b c.args.i)) (up_to n)) (sym (raw-size b c.requires.0.ranged.held)))
-
-pub names_queue-requires : goal.names_queue-requires
-names_queue-requires c = record { ranged = c.requires.0.ranged; labels = c.requires.0.labels; formed = c.requires.1 }
-
-pub endpoints_cross-requires : goal.endpoints_cross-requires
-endpoints_cross-requires c = (record { ranged = c.requires.0.ranged; labels = c.requires.0.labels; formed = c.requires.1 }, refl)
