@@ -36,7 +36,7 @@ use Rattle.settling.specs.Turns.{found, member_number}
 -- ## A call tried
 
 -- only one refusal has number 40
-pub is-full : (why : Refusal) → number why ≡ 40 → why ≡ Refusal.Full
+is-full : (why : Refusal) → number why ≡ 40 → why ≡ Refusal.Full
 is-full Kind e = absurd (omega arith)
 is-full Recorder e = absurd (omega arith)
 is-full Unused e = absurd (omega arith)

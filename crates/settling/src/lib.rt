@@ -76,7 +76,7 @@ fn try_call(b: &[u8], v: View, k: Kind, r: u32) -> Result<(), Refusal>
     refusal_kind(b, k, r, a, 0)
 }
 
-// What the calls of kind k give, at the members of a view, rising: the first that is taken, or a 40 met before one.
+// What the calls of kind k give, at the members of a view, rising: the first that is not refused, or a 40 met before one.
 fn find_call(b: &[u8], v: View, k: Kind) -> Turn
     requires { is_stored b.now ≡ true }
     ensures { found v.number result
@@ -109,7 +109,7 @@ pub fn find_turn(b: &[u8], v: View) -> Turn
     Turn::Nothing
 }
 
-// Performs the call of kind k at recorder r, which is not refused.
+// Performs the call of kind k at recorder r; the bytes alone matter.
 fn take_call(work: &mut [u8], v: View, k: Kind, r: u32)
     requires { is_stored work.old ≡ true }
     ensures { work.new ≡ (step_on work.old (settle_call v.number (kind_number k) r)).bytes }

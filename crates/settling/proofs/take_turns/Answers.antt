@@ -6,12 +6,6 @@ use Rattle.settling.proofs.take_turns.Goals as goal
 pub loop-count-init : goal.loop-count-init
 loop-count-init c = going-none c.args.work.now c.args.v c.requires
 
-pub find_turn-requires : goal.find_turn-requires
-find_turn-requires c = c.loop-count.invariant.in_view.holds
-
-pub take_call-requires : goal.take_call-requires
-take_call-requires c = c.loop-count.invariant.in_view.holds
-
 pub returns-in-Full : goal.returns-in-Full
 returns-in-Full c =
     let l = c.loop-count in
