@@ -1,21 +1,23 @@
 -- Words taken off a line one after another, and what they come to. Assumes nothing.
-use Prim.Native.Nat.{ℕ, ◌-◌, ◌≤◌, min}
+use Prim.Native.Nat.{ℕ, ◌-◌, min}
 use mathlib.Core.Path.{◌≡◌, refl, sym, ap, ap₂, subst, ◌∙◌}
 use mathlib.Core.Bool.{Bool, true, false, not, ◌&&◌}
 use mathlib.Core.List.{List, [], ◌∷◌}
 use lib.Dec.{eqb}
 use lib.ListN.{drop}
 use borrow.Author.Tests.{eqb-true, eq-eqb, ne_eqb, not-false}
-use Rattle.std.proofs.Common.{Option, Some, None}
+use Rattle.std.proofs.Common.{Option, Some, None, arith}
 use Rattle.std.specs.Option.{MatchOption, unwrap_or}
 use Rattle.std.specs.Bool.{then_some}
 use Rattle.base.specs.Lists.{rest, is_empty}
 use Rattle.codec.specs.Bytes.{part, same_bytes}
 use Rattle.codec.proofs.BytesLaws.{same_refl}
-use Rattle.model.specs.Kinds.{Kind, last_kind, kind_of, kinds, Uses, uses}
-use Rattle.model.proofs.KindLaws.{names-kind}
+use Rattle.model.specs.Kinds.{kind_of, kinds, Uses, uses}
+use Rattle.model.specs.declared.kinds.Kind.{Kind}
+use Rattle.model.specs.KindNumbers.{kind_meaning, kind_number}
+use Rattle.model.proofs.KindNumbersLaws.{number-names}
 use Rattle.model.specs.Call.{Words, words_of}
-use Rattle.words.specs.Words.{kind_at, use_of}
+use Rattle.words.specs.Words.{use_of}
 use Rattle.words.specs.declared.Use.{Use}
 use Rattle.words.specs.declared.Use.TheVariants.{Unused, Word, Recorder, Number, Set}
 use Rattle.runfile.specs.Answers.{action_words, file_opening}
@@ -30,6 +32,7 @@ use Rattle.story.specs.Printing.{whole_mask}
 use Rattle.story.specs.Parsing as story
 use Rattle.story.specs.Parsing.{take_field, take_word, take_four, kind_line, raw_line, founders_of, take_founders, take_eight, take_votes}
 use Rattle.story.specs.Parsing.{opening_line, line_from, line_of, blank, wrong}
+use Rattle.story.proofs.KeywordsLaws.{kind-named}
 use Rattle.scanning.specs.Scanned.{Spans, value_of}
 use Rattle.scanning.proofs.ValuesAt.{other_word}
 use Rattle.parsing.specs.Reading.{Took, action_or, opening_or, line_meaning}
@@ -333,13 +336,12 @@ pub line-raw : (k : ℕ) (fs : List (List ℕ)) → (k ≡ hall_number → ⊥) 
 unfolding line_from
 line-raw k fs h e = rw (ne_eqb k hall_number h, line_from, eq-eqb k raw_number e)
 
-module _ (k : ℕ) (fs : List (List ℕ)) (h : k ≡ hall_number → ⊥) (r : k ≡ raw_number → ⊥) where
-  pub line-kind : 1 ≤ k → k ≤ last_kind → line_from k fs ≡ kind_line k (uses (kind_at k)) fs
-  unfolding line_from kind_at
-  line-kind low high =
-      let named = names-kind k low high in
-      let at : kind_at k ≡ named.0 = rw (named.1, kind_at) in
-      rw (ne_eqb k hall_number h, line_from, ne_eqb k raw_number r, named.1) (ap (λ (κ : Kind). kind_line k (uses κ) fs) (sym at))
+pub line-kind : (κ : Kind) (fs : List (List ℕ)) → line_from (kind_number κ) fs ≡ kind_line (kind_number κ) (uses (kind_meaning κ)) fs
+unfolding line_from
+line-kind κ fs =
+    let k = kind_number κ in
+    let below = (kind-named k (kind_meaning κ) (number-names κ)).below in
+    rw (ne_eqb k hall_number (λ e. omega (arith, below)), line_from, ne_eqb k raw_number (λ e. omega (arith, below)), number-names κ)
 
 pub line-blank : (bs : List ℕ) → is_empty (fields_in bs) ≡ true → line_of bs ≡ blank
 unfolding line_of

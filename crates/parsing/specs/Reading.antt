@@ -1,9 +1,8 @@
 -- What the code takes off a line, and what a line says, by the definitions of the text form.
 -- Assumes nothing.
 use Rattle.std.specs.Prelude.{ℕ, ◌≤◌, ◌≡◌, Bool, true, false, List, length, drop, Option, Some, None}
-use Rattle.runfile.specs.Answers.{action_words, vote_words, file_opening}
+use Rattle.runfile.specs.Answers.{action_words, file_opening}
 use Rattle.runfile.specs.declared.Action.{Action as Words}
-use Rattle.runfile.specs.declared.Votes.{Votes}
 use Rattle.runfile.specs.declared.FileOpening.{FileOpening}
 use Rattle.story.specs.Fields.{fields_in}
 use Rattle.story.specs.Keywords.{hall_number}
@@ -29,9 +28,9 @@ TakesFour text x None = x.ok ≡ false
 TakesFour text x (Some t) = Took text x.ok x.words x.left (action_words t.0) t.1
 
 -- the same of the votes
-abbrev pub TakesVotes : List ℕ → story.TakenVotes → Option ((ℕ × Votes) × ℕ) → Type 0
+abbrev pub TakesVotes : List ℕ → story.TakenVotes → Option ((ℕ × List ℕ) × ℕ) → Type 0
 TakesVotes text x None = x.ok ≡ false
-TakesVotes text x (Some t) = Took {V = ℕ × List ℕ} text x.ok (x.third, x.words) x.left (t.0.0, vote_words t.0.1) t.1
+TakesVotes text x (Some t) = Took {V = ℕ × List ℕ} text x.ok (x.third, x.words) x.left t.0 t.1
 
 -- an action or an opening, if all of its line was read; else no line, with the number of its first word
 unfoldable pub action_or : Option Words → ℕ → story.Line

@@ -5,17 +5,19 @@
 ghost use Rattle.std.specs.Prelude.{◌≡◌, ℕ, List, ◌+◌, ◌≤◌, length, drop, Option};
 ghost use Rattle.std.specs.Fn.{FnReturnsAt};
 ghost use Rattle.base.specs.Lists.{is_empty};
-ghost use Rattle.model.specs.Kinds.{last_kind, uses};
-ghost use Rattle.words.specs.Words.{kind_at, use_of};
+ghost use Rattle.model.specs.Kinds.{uses};
+ghost use Rattle.model.specs.KindNumbers.{kind_meaning, kind_number};
+ghost use Rattle.words.specs.Words.{use_of};
 ghost use Rattle.story.specs.Fields.{fields_in, line_length};
 ghost use Rattle.story.specs.Numbers.{Value, number_of};
 ghost use Rattle.story.specs.Keywords.{raw_number};
 ghost use Rattle.story.specs.Parsing.{take_field, take_word, take_four, founders_of, take_founders, take_eight, take_votes};
 ghost use Rattle.story.specs.Parsing.{kind_line, raw_line, opening_line, line_from, line_of};
-ghost use Rattle.scanning.specs.Scanned.{value_of, first_number, InRange};
+ghost use Rattle.scanning.specs.Scanned.{value_of, first_number};
 ghost use Rattle.parsing.specs.Reading.{Takes, TakesFour, TakesVotes, action_or, opening_or, line_meaning};
 
-use runfile::{Action, FileOpening, Votes};
+use model::kinds::Kind;
+use runfile::{Action, FileOpening};
 use scanning::{FirstWord, first_word, line_end, next_field, number_of, set_of};
 use words::{Use, Uses, uses_of};
 
@@ -78,15 +80,21 @@ fn is_over(text: &[u8], at: usize) -> bool
 // ## Actions
 
 // The action told after the word of a kind, if all of its line is read.
-fn kind_action(k: u32, text: &[u8], at: usize) -> Option<Action>
-    requires { (1 ≤ k) × (k ≤ last_kind) × (at ≤ length text.now) }
-    ensures { action_or result k ≡ kind_line k (uses (kind_at k)) (fields_in (drop at text.now)) }
+fn kind_action(k: Kind, text: &[u8], at: usize) -> Option<Action>
+    requires { at ≤ length text.now }
+    ensures { action_or result (kind_number k)
+        ≡ kind_line (kind_number k) (uses (kind_meaning k)) (fields_in (drop at text.now)) }
 {
     let Uses(of_r, of_a, of_b) = uses_of(k);
     let (r, at) = take_word(of_r, text, at)?;
     let (a, at) = take_word(of_a, text, at)?;
     let (b, at) = take_word(of_b, text, at)?;
-    is_over(text, at).then_some(Action { k, r, a, b })
+    is_over(text, at).then_some(Action {
+        k: u32::from(k),
+        r,
+        a,
+        b,
+    })
 }
 
 // The action told after `raw`.
@@ -124,27 +132,17 @@ fn take_founders(n: u32, text: &[u8], at: usize) -> Option<(u32, usize)>
 }
 
 // A third word of 1, and eight vote words.
-fn take_eight(text: &[u8], at: usize) -> Option<((u32, Votes), usize)>
+fn take_eight(text: &[u8], at: usize) -> Option<((u32, [u32; 8]), usize)>
     requires { at ≤ length text.now }
     ensures { TakesVotes text.now (take_eight (fields_in (drop at text.now))) result }
 {
     let (x, at) = take_four(text, at)?;
     let (y, at) = take_four(text, at)?;
-    let words = Votes {
-        v1: x.k,
-        v2: x.r,
-        v3: x.a,
-        v4: x.b,
-        v5: y.k,
-        v6: y.r,
-        v7: y.a,
-        v8: y.b,
-    };
-    Some(((1, words), at))
+    Some(((1, [x.k, x.r, x.a, x.b, y.k, y.r, y.a, y.b]), at))
 }
 
 // The votes, if they are told; else a third word of 0, without vote words.
-fn take_votes(text: &[u8], at: usize) -> Option<((u32, Votes), usize)>
+fn take_votes(text: &[u8], at: usize) -> Option<((u32, [u32; 8]), usize)>
     requires { at ≤ length text.now }
     ensures { TakesVotes text.now (take_votes (fields_in (drop at text.now))) result }
 {
@@ -153,17 +151,7 @@ fn take_votes(text: &[u8], at: usize) -> Option<((u32, Votes), usize)>
     if word == b"votes".as_slice() {
         return take_eight(text, f.to);
     }
-    let words = Votes {
-        v1: 0,
-        v2: 0,
-        v3: 0,
-        v4: 0,
-        v5: 0,
-        v6: 0,
-        v7: 0,
-        v8: 0,
-    };
-    Some(((0, words), at))
+    Some(((0, [0; 8]), at))
 }
 
 // The opening told after `hall`, if all of its line is read.
@@ -195,8 +183,7 @@ pub enum Line {
 
 // A line by its first word.
 fn line_from(first: FirstWord, text: &[u8], at: usize) -> Line
-    requires word { InRange first }
-    requires place { at ≤ length text.now }
+    requires { at ≤ length text.now }
     ensures { line_meaning result ≡ line_from (first_number first) (fields_in (drop at text.now)) }
 {
     let line = match first {

@@ -16,19 +16,24 @@ use Rattle.quorum.specs.Sets.{in_mask}
 use Rattle.codec.specs.Bytes.{same_bytes}
 use Rattle.codec.proofs.BytesLaws.{same-eq}
 use Rattle.model.specs.Listing.{hall-word}
-use Rattle.model.specs.Kinds.{kinds, last_kind}
+use Rattle.model.specs.Kinds as model
+use Rattle.model.specs.Kinds.{kind, no_kind, kinds, last_kind}
+use Rattle.model.specs.declared.kinds.Kind.{Kind}
+use Rattle.model.specs.declared.refusals.Refusal.{Refusal}
+use Rattle.model.specs.KindNumbers.{Names}
 use Rattle.model.proofs.KindLaws.{names-kind}
 use Rattle.story.specs.Sets.{joins, with_member, members_from, set_from, set_of}
 use Rattle.story.specs.Keywords.{kind_words, kind_word, raw_word, raw_number, search, word_number}
 use Rattle.story.proofs.KeywordsLaws.{kind-named}
-use Rattle.std.proofs.Common.{Option, Some, None, Bor, map, cond, position}
+use Rattle.std.proofs.Common.{Option, Some, None, Result, Ok, Err, Bor, map, cond, position}
+use Rattle.std.specs.Result.{result_ok}
 use Rattle.std.specs.List.{position_or_len}
 use Rattle.std.proofs.lemmas.List.{length-map, get_or-map}
 use Rattle.std.proofs.lemmas.List.Quantifiers.{position-Some}
 use Rattle.std.specs.Option.{SomeIff}
 use Rattle.std.specs.Str.{bytes_eq}
 use Rattle.std.proofs.lemmas.Slice.Eq.{bytes_eq-Decides}
-use Rattle.scanning.specs.Scanned.{Grows, place_of}
+use Rattle.scanning.specs.Scanned.{Grows, place_of, KindNamed}
 use Rattle.scanning.proofs.FieldsAt.{drop-step, drop_past}
 
 -- ## Bytes in a range
@@ -232,6 +237,9 @@ none-passes p (x ∷ xs) d h k l = by_cases (p x) (λ t. absurd (omega (arith, p
     later t others zero l = t
     later t others (suc k) l = others k (omega arith)
 
+no-kind : {κ : model.Kind} → kind κ ≡ no_kind → ⊥
+no-kind {κ} e = cc
+
 -- a field among the words of the kinds, told one after another
 module _ (f : List ℕ) (ws : List (Bor (List ℕ))) where
   abbrev is : Bor (List ℕ) → Bool
@@ -263,12 +271,24 @@ module _ (f : List ℕ) (ws : List (Bor (List ℕ))) where
       let is-word : f ≡ kind_word (i + 1) = sym ((bytes_eq-Decides (get_or ws i nothing).now f).0 p.1) ∙ word-at e i p.0 ∙ sym next in
       ap word_number is-word ∙ (kind-named (i + 1) named.0 named.1).number
 
-  pub no-kind-number : None ≡ place_of f ws → Kinds → (f ≡ raw_word → ⊥) → (f ≡ hall-word → ⊥) → word_number f ≡ 0
-  unfolding place_of word_number search
-  no-kind-number h e r l =
+  -- the place names the kind
+  pub kind-found : (i : ℕ) → Some i ≡ place_of f ws → Kinds → (r : Result Kind Refusal) → Names (i + 1) r → KindNamed f (result_ok r)
+  unfolding last_kind kinds
+  kind-found i h e (Ok κ) n = kind-number i h e ∙ sym n.1
+  kind-found i h e (Err why) n =
+      let named = names-kind (i + 1) (omega arith) (omega (arith, kind-place i h e)) in
+      absurd (no-kind (sym named.1 ∙ n.0))
+
+  pub no-kind-number : None ≡ place_of f ws → Kinds → word_number f ≡ search f (raw_word ∷ hall-word ∷ []) raw_number 0
+  unfolding place_of word_number
+  no-kind-number h e =
       let none = none-passes is ws nothing (position-none is ws h) in
       let others : (j : ℕ) → j < length ws → same_bytes (get_or (rest kind_words) j []) f ≡ false =
       λ j p. other_word f (get_or (rest kind_words) j []) (λ q. both_ways (is (get_or ws j nothing)) (none j p) ((bytes_eq-Decides (get_or ws j nothing).now f).1 (word-at e j p ∙ sym q))) in
       search-none f (rest kind_words) 1 (search f (raw_word ∷ hall-word ∷ []) raw_number 0)
       (λ j p. others j (omega (arith, length-map ws (λ (w : Bor (List ℕ)). w.now), ap length e)))
-      ∙ rw (other_word f raw_word r, search, other_word f hall-word l) refl
+
+-- a field that is none of the other words
+pub no-word-number : (f : List ℕ) → (f ≡ raw_word → ⊥) → (f ≡ hall-word → ⊥) → search f (raw_word ∷ hall-word ∷ []) raw_number 0 ≡ 0
+unfolding search
+no-word-number f r l = rw (other_word f raw_word r, search, other_word f hall-word l) refl

@@ -1,16 +1,17 @@
 -- What is found in a text: where fields stand, what they are read as.
 -- Assumes nothing.
-use Rattle.std.specs.Prelude.{ℕ, ◌-◌, ◌≤◌, ◌≡◌, Bool, true, false, List, eqb, length, drop, Option, Some, None, position}
+use Rattle.std.specs.Prelude.{ℕ, ◌-◌, ◌≤◌, ◌≡◌, Bool, true, false, List, [], ◌∷◌, eqb, length, drop, Option, Some, None, position}
 use Rattle.std.specs.Str.{bytes_eq}
 use denote.Ref.{Bor}
 use Rattle.base.specs.Lists.{rest, is_empty}
 use Rattle.codec.specs.Bytes.{part}
-use Rattle.model.specs.Kinds.{last_kind}
+use Rattle.model.specs.declared.kinds.Kind.{Kind}
+use Rattle.model.specs.KindNumbers.{kind_number}
+use Rattle.model.specs.Listing.{hall-word}
 use Rattle.story.specs.Fields.{fields_in, first_field}
 use Rattle.story.specs.Numbers as numbers
-use Rattle.story.specs.Keywords.{raw_number, hall_number}
+use Rattle.story.specs.Keywords.{raw_word, raw_number, hall_number, search, word_number}
 use Rattle.scanning.specs.declared.FirstWord.{FirstWord}
-use Rattle.scanning.specs.declared.FirstWord.TheVariants.{Kind, Raw, Hall, Other}
 
 -- the first field from `at` on stands at `from` up to `to`; there is none where both are the same
 pub record Spans (text : List ℕ) (at from to : ℕ) : Type 0 where
@@ -34,16 +35,14 @@ Grows t n None = t ≡ false
 unfoldable pub place_of : List ℕ → List (Bor (List ℕ)) → Option ℕ
 place_of f ws = position (λ w. bytes_eq w.now f) ws
 
+-- the kind whose word f is; where there is none, f has the number of one of the other words
+abbrev pub KindNamed : List ℕ → Option Kind → Type 0
+KindNamed f (Some κ) = word_number f ≡ kind_number κ
+KindNamed f None = word_number f ≡ search f (raw_word ∷ hall-word ∷ []) raw_number 0
+
 -- the number of a word that a line begins with; 0 for any other
 abbrev pub first_number : FirstWord → ℕ
-first_number (Kind k) = k
-first_number Raw = raw_number
-first_number Hall = hall_number
-first_number Other = 0
-
--- the word of a kind has a kind's number
-abbrev pub InRange : FirstWord → Type 0
-InRange (Kind k) = (1 ≤ k) × (k ≤ last_kind)
-InRange Raw = Unit {0}
-InRange Hall = Unit {0}
-InRange Other = Unit {0}
+first_number (FirstWord.Kind κ) = kind_number κ
+first_number FirstWord.Raw = raw_number
+first_number FirstWord.Hall = hall_number
+first_number FirstWord.Other = 0

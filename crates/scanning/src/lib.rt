@@ -8,7 +8,10 @@ ghost use Rattle.story.specs.Fields.{is_blank, is_end, is_break, line_length};
 ghost use Rattle.story.specs.Numbers.{goes_on, with_digit, number_of};
 ghost use Rattle.story.specs.Sets.{joins, with_member, members_from, set_of};
 ghost use Rattle.story.specs.Keywords.{word_number};
-ghost use Rattle.scanning.specs.Scanned.{Spans, Grows, value_of, place_of, first_number, InRange};
+ghost use Rattle.scanning.specs.Scanned.{Spans, Grows, value_of, place_of, KindNamed, first_number};
+
+use model::kinds::Kind;
+use story::KIND_WORDS;
 
 // ## Fields
 
@@ -144,10 +147,10 @@ pub fn set_of(field: &[u8]) -> Option<u32>
 
 // ## Words
 
-// A word that a line begins with: that of a kind, by the kind's number, or another of the text form; or none.
+// A word that a line begins with: that of a kind, or another of the text form; or none.
 #[derive(Clone, Copy)]
 pub enum FirstWord {
-    Kind(u32),
+    Kind(Kind),
     Raw,
     Hall,
     Other,
@@ -164,19 +167,13 @@ impl FirstWord {
         ensures { result ≡ first_number self }
     {
         match self {
-            FirstWord::Kind(k) => k,
+            FirstWord::Kind(k) => u32::from(k),
             FirstWord::Raw => RAW,
             FirstWord::Hall => HALL,
             FirstWord::Other => 0,
         }
     }
 }
-
-// The words of the kinds, 1 to 11 in turn.
-const KIND_WORDS: [&[u8]; 11] = [
-    b"submit", b"label", b"send", b"summary", b"form", b"enter", b"place", b"receive", b"safe",
-    b"confirm", b"deliver",
-];
 
 // The place of the first of the words that a field is.
 #[tactic(auto, unfolding(crate::specs::Scanned::place_of))]
@@ -186,13 +183,20 @@ fn place_of(field: &[u8], words: &[&[u8]]) -> Option<usize>
     words.iter().position(|word| *word == field)
 }
 
+// The kind that a field is the word of.
+fn kind_named(field: &[u8]) -> Option<Kind>
+    ensures { KindNamed field.now result }
+{
+    let i = place_of(field, &KIND_WORDS)?;
+    Kind::try_from(i as u32 + 1).ok()
+}
+
 // The word that a line begins with.
 pub fn first_word(field: &[u8]) -> FirstWord
-    ensures number { first_number result ≡ word_number field.now }
-    ensures range { InRange result }
+    ensures { first_number result ≡ word_number field.now }
 {
-    if let Some(i) = place_of(field, &KIND_WORDS) {
-        FirstWord::Kind(i as u32 + 1)
+    if let Some(k) = kind_named(field) {
+        FirstWord::Kind(k)
     } else if field == b"raw".as_slice() {
         FirstWord::Raw
     } else if field == b"hall".as_slice() {

@@ -17,4 +17,4 @@ returns c =
     c.line_from.ensures
     ∙ sym
     (line-some _ (s.none ∙ ne_eqb _ _ c.if-f.false)
-    ∙ ap₂ line_from (ap word_number s.field ∙ sym c.first_word-first.ensures.number) s.left)
+    ∙ ap₂ line_from (ap word_number s.field ∙ sym c.first_word-first.ensures) s.left)

@@ -1,6 +1,5 @@
 -- Assumes nothing.
 use Rattle.std.proofs.Common.{◌∙◌}
-use Rattle.runfile.specs.Answers.{vote_words}
 use Rattle.parsing.proofs.LinesAt.{opening-last, no-opening, opening-none, opening-one, opening-two, opening-all}
 use Rattle.parsing.proofs.opening.Goals as goal
 
@@ -23,4 +22,4 @@ returns c =
     let v = c.in_ok-third in
     rw (c.then_some.ensures, c.is_over.ensures) (opening-last _ _)
     ∙ opening-all c.args.text.now _ c.in_ok-size.size c.in_ok-size.at c.in_ok-size.ensures
-    c.in_ok-founders.founders c.in_ok-founders.at c.in_ok-founders.ensures v.third (vote_words v.words) v.at v.ensures
+    c.in_ok-founders.founders c.in_ok-founders.at c.in_ok-founders.ensures v.third v.words v.at v.ensures
