@@ -83,7 +83,7 @@ fn find_call(b: &[u8], v: View, k: Kind) -> Turn
         ≡ any_turn hl3 (hall_of b.now)
         (map (settle_call v.number (kind_number k)) (members (hall_of b.now).size v.set)) }
 {
-    for r in 1..size(b) + 1 {
+    for r in 1..=size(b) {
         let Err(why) = try_call(b, v, k, r) else {
             return Turn::Takes(k, r);
         };

@@ -2,7 +2,7 @@
 use borrow.Author.Rules.{rules}
 use native.Mathlib.Omega.{arith}
 use mathlib.Core.Path.{◌≡◌, sym, ap, ◌∙◌}
-use Prim.Native.Nat.{◌+◌, ◌-◌}
+use Prim.Native.Nat.{◌+◌, ◌-◌, ◌≤◌}
 use Rattle.model.specs.KindNumbers.{kind_number}
 use Rattle.model.specs.RefusalNumbers.{number}
 use Rattle.store.specs.StoredForm.{hall_of}
@@ -21,23 +21,32 @@ pub returns-in_default : goal.returns-in_default
 unfolding found
 returns-in_default c =
     let a = c.args in
-    over-taken (hall_of a.b.now) a.v (kind_number a.k) _ c.loop-r.r c.loop-r-test.true c.in_default.ensures ∙ sym c.loop-r.invariant
+    over-taken (hall_of a.b.now) a.v (kind_number a.k) _ c.loop-r.r (search rules) c.in_default.ensures ∙ sym c.loop-r.invariant
 
 pub returns-in-Full : goal.returns-in-Full
 unfolding found
 returns-in-Full c =
     let a = c.args in
-    over-full (hall_of a.b.now) a.v (kind_number a.k) _ c.loop-r.r c.loop-r-test.true (sym (ap number c.in-Full.is) ∙ c.in-Err.ensures)
+    over-full (hall_of a.b.now) a.v (kind_number a.k) _ c.loop-r.r (search rules) (sym (ap number c.in-Full.is) ∙ c.in-Err.ensures)
     ∙ sym c.loop-r.invariant
 
 pub loop-r-preserved : goal.loop-r-preserved
 loop-r-preserved c =
     let a = c.args in
     c.loop-r.invariant
-    ∙ over-passed (hall_of a.b.now) a.v (kind_number a.k) _ c.loop-r.r c.loop-r-test.true c.in-Err.why c.in-Err.ensures c.in_default-why.not-Full
+    ∙ over-passed (hall_of a.b.now) a.v (kind_number a.k) _ c.loop-r.r (search rules) c.in-Err.why c.in-Err.ensures c.in_default-why.not-Full
 
 pub returns : goal.returns
 unfolding found
 returns c =
     let a = c.args in
     over-none (hall_of a.b.now) a.v (kind_number a.k) _ c.loop-r.r (search rules) ∙ sym c.loop-r.invariant
+
+pub returns-in_default-why : goal.returns-in_default-why
+unfolding found
+returns-in_default-why c =
+    let a = c.args in
+    let last : c.size-r-end.result + 1 ≤ c.loop-r.r + 1 = search rules in
+    over-none (hall_of a.b.now) a.v (kind_number a.k) _ (c.loop-r.r + 1) last
+    ∙ sym (c.loop-r.invariant
+    ∙ over-passed (hall_of a.b.now) a.v (kind_number a.k) _ c.loop-r.r (search rules) c.in-Err.why c.in-Err.ensures c.in_default-why.not-Full)
