@@ -1,7 +1,6 @@
 pub mod BuiltLaws
 pub mod Full
 pub mod Lists
-pub mod ChainLaws
 pub mod SourcesLaws
 pub mod LabelsLaws
 pub mod RowsLaws
