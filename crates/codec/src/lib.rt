@@ -197,11 +197,7 @@ pub fn first_of(l: ByteList) -> Option<u8>
     requires { l.len ≤ list_capacity }
     ensures { found_of result ≡ first_of (items l) }
 {
-    if l.len == 0 {
-        None
-    } else {
-        Some(l.places[0])
-    }
+    if l.len == 0 { None } else { Some(l.places[0]) }
 }
 
 // A list without its first byte.
