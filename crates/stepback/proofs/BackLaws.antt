@@ -1,5 +1,5 @@
--- A step back tried on a copy of the hall's stored bytes gives what the definition says of the whole slice; the number of a
--- step back, case by case, and what one that is taken leaves. Assumes nothing.
+-- A step back tried on a copy of the hall's stored bytes gives what the definition says of the whole slice; and what a step
+-- back leaves. Assumes nothing.
 use Prim.Native.Nat.{ℕ, ◌+◌, ◌^◌, ◌≤◌, ◌<◌}
 use native.Mathlib.Omega.{arith}
 use mathlib.Core.Path.{◌≡◌, refl, sym, ap, ap₂, ◌∙◌, subst}
@@ -9,10 +9,10 @@ use mathlib.Core.Option.{some}
 use lib.ListN.{length, take, drop, take-append-drop}
 use lib.Seq.{sets, length-sets, length-take-le, take_at, take-take}
 use borrow.Author.Tests.{leb-true}
+use Rattle.std.specs.Prelude.{Result}
+use Rattle.std.specs.Result.{IsErrAnd}
 use Rattle.base.specs.Lists.{Each}
-use Rattle.base.specs.Chains.{refuse}
 use Rattle.base.proofs.ListsLaws.{each_right}
-use Rattle.base.proofs.ChainsLaws.{first-refuses, first_passes}
 use Rattle.codec.specs.Bytes.{same_bytes}
 use Rattle.codec.specs.Form.{mapped, renamed, guarded}
 use Rattle.codec.specs.Number.{number}
@@ -20,6 +20,9 @@ use Rattle.codec.specs.Pair.{given}
 use Rattle.codec.proofs.SliceLaws.{sets-append-left}
 use Rattle.model.specs.Answers.{accepted}
 use Rattle.model.specs.Call.{Words, hl3, step}
+use Rattle.model.specs.declared.refusals.Refusal.{Refusal}
+use Rattle.model.specs.RefusalNumbers as refusal
+use Rattle.model.proofs.RefusalNumbersLaws.{has-number, exit}
 use Rattle.store.specs.Layout.{stored_length}
 use Rattle.store.specs.StoredForm.{is_stored}
 use Rattle.store.proofs.StoredFormLaws.{is_stored-long, is_stored-first, hall_of-first}
@@ -28,14 +31,13 @@ use Rattle.answer.specs.Meaning.{meaning}
 use Rattle.calls.specs.Calls.{step_on, run_on}
 use Rattle.calls.specs.Steps.{Steps}
 use Rattle.calls.proofs.HeldSteps.{step-answer}
-use Rattle.step.specs.Numbers.{bytes_number}
 use Rattle.undo.specs.declared.Action.{Action}
 use Rattle.undo.specs.Buffer.{Slot, part_form, words_form, slot_form, held_in, newest_of, popped, put_back}
 use Rattle.undo.specs.Code.{action_of, Holding}
 use Rattle.undo.proofs.BufferLaws.{held-slots, newest-last}
 use Rattle.undo.proofs.Rooms.{ended}
 use Rattle.settling.proofs.CopyLaws.{whole-written, run-copy}
-use Rattle.stepback.specs.Held.{bench_of, undo_number, leads, restored_by, can_step_back, SteppedBack, back_number}
+use Rattle.stepback.specs.Held.{bench_of, leads, restored_by, can_step_back, SteppedBack, back_number}
 use Rattle.stepback.specs.Steps.{StepsBack}
 use Rattle.stepback.proofs.HeldLaws.{back_early, back-made, back-taken}
 
@@ -145,7 +147,7 @@ module _ (b u : List ℕ) (held : is_stored b ≡ true) (i : Holding u) (z : Lis
 
   -- the newest action on it answers y and leaves e
   module _ (h : is_stored d ≡ true) (x : Action) (read : (s : Slot) → newest_of (held_in u) ≡ some s → action_of x ≡ s.words)
-      (y : Answer) (e : List ℕ) (steps : Steps d x.k x.r x.a x.b y e) where
+      (y : Result Answer Refusal) (e : List ℕ) (steps : Steps d x.k x.r x.a x.b y e) where
     old-held : is_stored old ≡ true
     old-held = tried-held ∙ h
 
@@ -170,46 +172,27 @@ module _ (b u : List ℕ) (held : is_stored b ≡ true) (i : Holding u) (z : Lis
     leads-same a t same =
         same ∙ ap (λ (v : List ℕ). same_bytes v (take stored_length b)) bytes-are ∙ sym (answer-is ∙ rw (old-held, sym accepted-is ∙ a, leads))
 
--- ## The number
-
-module _ (b u : List ℕ) where
-  -- 31
-  pub back-broken : (n : ℕ) → n ≡ bytes_number b → (n ≡ 0 → ⊥) → n ≡ back_number (bench_of b u)
-  unfolding back_number
-  back-broken n e ne = e ∙ sym (first-refuses (bytes_number b) _ (λ z. ne (e ∙ z)))
-
-  module _ (n : ℕ) (e : n ≡ bytes_number b) (z : n ≡ 0) (m : ℕ) (f : m ≡ undo_number u) where
-    -- 43
-    pub back-unformed : (m ≡ 0 → ⊥) → m ≡ back_number (bench_of b u)
-    unfolding back_number
-    back-unformed ne = f ∙ sym (first_passes (bytes_number b) _ (sym e ∙ z) ∙ first-refuses (undo_number u) _ (λ y. ne (f ∙ y)))
-
-    -- 43 or none
-    pub back-judged : m ≡ 0 → (t : Bool) → t ≡ can_step_back b (newest_of (held_in u)) → refuse (not t) 43 ≡ back_number (bench_of b u)
-    unfolding back_number
-    back-judged y t is =
-        ap (λ (t : Bool). refuse (not t) 43) is ∙ sym (first_passes (bytes_number b) _ (sym e ∙ z) ∙ first_passes (undo_number u) _ (sym f ∙ y))
+-- ## What it leaves
 
 pub none-held : (b : List ℕ) (xs : List Slot) → length xs ≡ 0 → false ≡ can_step_back b (newest_of xs)
 unfolding can_step_back newest_of
 none-held b [] e = refl
 none-held b (x ∷ xs) e = absurd (omega arith)
 
--- ## What it leaves
-
 module _ (b u : List ℕ) where
   -- one that is taken: a hall, and a buffer that holds an action
-  pub back-holds : back_number (bench_of b u) ≡ 0 → (is_stored b ≡ true) × Holding u
+  pub back-holds : 0 ≡ back_number (bench_of b u) → (is_stored b ≡ true) × Holding u
   back-holds z =
-      let t = back-taken (bench_of b u) (ap (λ (y : SteppedBack). y.number) (back-made (bench_of b u) z)) in
+      let t = back-taken (bench_of b u) (ap (λ (y : SteppedBack). y.number) (back-made (bench_of b u) (sym z))) in
       let some : length (held_in u) ≡ 0 → ⊥ = λ none. true≢false (sym t.2 ∙ sym (none-held b (held_in u) none)) in
       (t.0, record { form = t.1; some = omega (arith, some) })
 
-  pub back-refused : (n : ℕ) → n ≡ back_number (bench_of b u) → (n ≡ 0 → ⊥) → StepsBack b u n b u
-  back-refused n e ne =
-      let is = back_early (bench_of b u) (λ z. ne (e ∙ z)) in
+  pub back-refused : {T : Type 0} (r : Result T Refusal) (why : Refusal) → IsErrAnd r (λ y. y ≡ why) → refusal.number why ≡ back_number (bench_of b u)
+      → StepsBack b u (refusal.refused_by r) b u
+  back-refused r why i e =
+      let is = back_early (bench_of b u) (λ z. has-number why (e ∙ z)) in
       record {
-        number = e ∙ sym (ap (λ (y : SteppedBack). y.number) is);
+        number = exit r why i ∙ e ∙ sym (ap (λ (y : SteppedBack). y.number) is);
         left =
             record {
               hall = sym (ap (λ (y : SteppedBack). y.left.hall) is);
@@ -217,11 +200,11 @@ module _ (b u : List ℕ) where
             };
       }
 
-  pub back_done : back_number (bench_of b u) ≡ 0 → (c v : List ℕ) → ((s : Slot) → newest_of (held_in u) ≡ some s → c ≡ put_back b s) → v ≡ popped u
+  pub back_done : 0 ≡ back_number (bench_of b u) → (c v : List ℕ) → ((s : Slot) → newest_of (held_in u) ≡ some s → c ≡ put_back b s) → v ≡ popped u
       → StepsBack b u 0 c v
   unfolding restored_by
   back_done z c v put pops =
-      let is = back-made (bench_of b u) z in
+      let is = back-made (bench_of b u) (sym z) in
       let n = newest-of u (back-holds z).1 in
       record {
         number = sym (ap (λ (y : SteppedBack). y.number) is);

@@ -7,8 +7,8 @@ use mathlib.Core.List.{List, [], ◌∷◌}
 use mathlib.Core.Option.{Option}
 use lib.Dec.{eqb}
 use borrow.Author.Tests.{eqb-true, eqb-false, eq-eqb, ne_eqb, not-false}
-use Rattle.base.specs.Chains.{refuse}
-use Rattle.base.proofs.ChainsLaws.{not-refused, chain-none, first_passes}
+use Rattle.base.specs.Chains.{refuse, ◌⨾◌}
+use Rattle.base.proofs.ChainsLaws.{not-refused, chain-none, first_passes, chain-assoc}
 use Rattle.model.specs.Kinds.{KindWord, kind, no_kind, kind_of}
 use Rattle.model.specs.Answers.{refused, plain, accepted}
 use Rattle.model.specs.Call.{Words}
@@ -18,7 +18,7 @@ use Rattle.calls.specs.Calls.{Outcome, step_on, settling_on, settle_on}
 use Rattle.calls.specs.ByKind.{give}
 use Rattle.calls.proofs.ByKindLaws.{act_on, step-by-kind}
 use Rattle.calls.proofs.Refused.{step_keeps}
-use Rattle.step.specs.Numbers.{kind_number, bytes_number}
+use Rattle.step.specs.Numbers.{word_kind_number, bytes_number}
 use Rattle.step.proofs.StepsLaws.{bytes-hall, bytes-hold}
 use Rattle.undo.specs.Buffer.{Slot, is_undo, held_in, newest_of, pushed, popped}
 use Rattle.undo.specs.Parts.{slot_of}
@@ -36,8 +36,8 @@ unfolding undo_number refuse
 in_form-undo u i = ap (λ (t : Bool). refuse (not t) 43) i
 
 -- an accepted step has a kind
-step-kind : (b : List ℕ) (w : Words) → accepted (step_on b w).answer ≡ true → kind_number w.k ≡ 0
-unfolding kind_number accepted plain
+step-kind : (b : List ℕ) (w : Words) → accepted (step_on b w).answer ≡ true → word_kind_number w.k ≡ 0
+unfolding word_kind_number accepted plain
 step-kind b w t = go (kind_of w.k) (ap (λ (o : Outcome). accepted o.answer) (sym (step-by-kind b w)) ∙ t)
   where
     by : KindWord → Outcome
@@ -75,6 +75,19 @@ module _ (x : Bench) (w : Words) where
   unfolding step_held_on step_by
   step-made z = ap step_by (eq-eqb (early_number x w) 0 z)
 
+  -- its answer's number
+  pub step-number : (plain (step_held_on x w).answer).number
+      ≡ (word_kind_number w.k ⨾ bytes_number x.hall) ⨾ undo_number x.undo ⨾ (plain o.answer).number
+  unfolding step_held_on step_by early_number plain ◌⨾◌
+  step-number =
+      go (eqb (early_number x w) 0)
+      ∙ ap (λ n. n ⨾ (plain o.answer).number) (sym (chain-assoc (word_kind_number w.k) (bytes_number x.hall) (undo_number x.undo)))
+      ∙ chain-assoc (word_kind_number w.k ⨾ bytes_number x.hall) (undo_number x.undo) (plain o.answer).number
+    where
+      go : (t : Bool) → ◌≡◌ {A = ℕ} (plain (step_by t).answer).number (elim t [ true ↦ (plain o.answer).number | false ↦ early_number x w ])
+      go true = refl
+      go false = refl
+
   pub step-keeps-bench : KeepsBench (plain (step_held_on x w).answer).number x (step_held_on x w).left
   unfolding step_held_on held_after accepted step_by held_by
   step-keeps-bench = go (eqb (early_number x w) 0)
@@ -96,7 +109,7 @@ module _ (x : Bench) (w : Words) where
       go : (t : Bool) → eqb (early_number x w) 0 ≡ t → accepted (step_by t).answer ≡ true
           → (is_stored x.hall ≡ true) × (is_undo x.undo ≡ true) × (accepted o.answer ≡ true)
       go true t a =
-          let late = (chain-none (kind_number w.k) _ (eqb-true (early_number x w) 0 t)).1 in
+          let late = (chain-none (word_kind_number w.k) _ (eqb-true (early_number x w) 0 t)).1 in
           let both = chain-none (bytes_number x.hall) (undo_number x.undo) late in
           (bytes-hold x.hall both.0, undo-in_form x.undo both.1, a)
       go false t a = absurd (true≢false (sym a ∙ t))
@@ -104,7 +117,7 @@ module _ (x : Bench) (w : Words) where
   not-early : is_stored x.hall ≡ true → is_undo x.undo ≡ true → accepted o.answer ≡ true → early_number x w ≡ 0
   unfolding early_number
   not-early s i a =
-      first_passes (kind_number w.k) _ (step-kind x.hall w a)
+      first_passes (word_kind_number w.k) _ (step-kind x.hall w a)
       ∙ first_passes (bytes_number x.hall) _ (sym (bytes-hall x.hall s)) ∙ in_form-undo x.undo i
 
   -- on a hall and a buffer

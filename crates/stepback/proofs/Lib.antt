@@ -3,6 +3,7 @@ pub mod HeldLaws
 pub mod BackLaws
 pub mod Refused
 pub mod HeldCode
+pub mod HeldTurns
 pub mod LentLaws
 pub mod BackUndoes
 pub mod RunsLaws

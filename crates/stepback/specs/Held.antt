@@ -12,7 +12,7 @@ use Rattle.model.specs.Settle.{cannot_settle, calls_taken}
 use Rattle.store.specs.Layout.{stored_length}
 use Rattle.store.specs.StoredForm.{hall_of, is_stored}
 use Rattle.calls.specs.Calls.{Outcome, step_on, settling_on, SettleOutcome, settle_on}
-use Rattle.step.specs.Numbers.{kind_number, bytes_number}
+use Rattle.step.specs.Numbers.{word_kind_number, bytes_number}
 use Rattle.undo.specs.Buffer.{Slot, is_undo, held_in, newest_of, pushed, popped, put_back}
 use Rattle.undo.specs.Parts.{slot_of}
 
@@ -36,7 +36,7 @@ pub record HeldStep : Type 0 where
 
 -- the numbers that come before those of the words
 unfoldable pub early_number : Bench → Words → ℕ
-early_number x w = kind_number w.k ⨾ bytes_number x.hall ⨾ undo_number x.undo
+early_number x w = word_kind_number w.k ⨾ bytes_number x.hall ⨾ undo_number x.undo
 
 -- the buffer after a step: an accepted action is held, "refused actions leave no trace to take back"
 unfoldable pub held_after : Bench → Words → List ℕ

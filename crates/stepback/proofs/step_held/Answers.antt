@@ -1,17 +1,23 @@
 -- Judged, then performed. Assumes nothing.
 use native.Mathlib.Omega.{arith}
+use mathlib.Core.Path.{subst}
+use Rattle.stepback.specs.Steps.{StepsHeld}
 use Rattle.stepback.proofs.HeldCode.{step-refuses, step-accepts}
 use Rattle.stepback.proofs.step_held.Goals as goal
 
-pub returns-then-why-ne0 : goal.returns-then-why-ne0
-returns-then-why-ne0 c =
+pub returns-in_err-kind : goal.returns-in_err-kind
+returns-in_err-kind c =
     let a = c.args in
-    let why = c.step_held_refusal-why in
-    step-refuses a.hall.now a.undo.now a.k a.r a.a a.b why.result why.ensures c.if-why-ne0.true
+    step-refuses a.hall.now a.undo.now a.k a.r a.a a.b c.from_residual.result _ c.from_residual.ensures.1 c.in_err-kind.ensures.number
 
 pub take_held-requires : goal.take_held-requires
 take_held-requires c =
-    let start = c in
-    let a = start.args in
-    let why = c.step_held_refusal-why in
-    step-accepts a.hall.now a.undo.now a.k a.r a.a a.b why.result why.ensures c.if-why-ne0.false (omega (arith, start.ranges.a))
+    let a = c.args in
+    let k = c.in_ok-kind in
+    step-accepts a.hall.now a.undo.now a.k a.r a.a a.b k.ensures.number (omega (arith, c.ranges.a)) k.kind k.ensures.kind
+
+pub returns : goal.returns
+returns c =
+    let a = c.args in
+    let t = c.take_held in
+    subst (λ j. StepsHeld a.hall.now a.undo.now j a.r a.a a.b t.result t.new.hall t.new.undo) c.in_ok-kind.ensures.kind t.ensures

@@ -1,18 +1,23 @@
 -- The call's words. Assumes nothing.
 use mathlib.Core.Path.{sym, subst}
+use Rattle.model.specs.Call.{Words}
+use Rattle.model.specs.KindNumbers.{kind_number}
 use Rattle.undo.specs.Code.{Accepts}
-use Rattle.stepback.specs.Held.{bench_of}
-use Rattle.stepback.proofs.HeldCode.{call-words, call-left}
+use Rattle.stepback.specs.Held.{bench_of, HeldStep, step_held_on}
+use Rattle.stepback.specs.Steps.{Left}
+use Rattle.stepback.proofs.HeldTurns.{call-words}
 use Rattle.stepback.proofs.take_call.Goals as goal
 
 pub take_held-requires : goal.take_held-requires
 take_held-requires c =
-    let start = c in
-    let a = start.args in
-    (start.requires.0, subst (Accepts a.hall.now) (sym (call-words a.v.number a.k a.r c.view_word-a.result c.view_word-a.ensures)) start.requires.1)
+    let a = c.args in
+    let w = c.view_word-a in
+    (c.requires.0, subst (Accepts a.hall.now) (sym (call-words a.v.number (kind_number a.k) a.r w.result w.ensures)) c.requires.1)
 
 pub returns : goal.returns
 returns c =
-    let start = c in
-    let a = start.args in
-    call-left (bench_of a.hall.now a.undo.now) a.v.number a.k a.r c.view_word-a.result c.view_word-a.ensures _ _ c.take_held.ensures.left
+    let a = c.args in
+    let w = c.view_word-a in
+    let t = c.take_held in
+    subst (λ (w : Words). Left (step_held_on (bench_of a.hall.now a.undo.now) w).left t.new.hall t.new.undo)
+    (call-words a.v.number (kind_number a.k) a.r w.result w.ensures) t.ensures.left
