@@ -8,3 +8,4 @@ pub mod ChainsLaws
 pub mod NumbersLaws
 pub mod Integers
 pub mod Arrays
+pub mod Iterators

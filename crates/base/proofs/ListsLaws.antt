@@ -11,7 +11,7 @@ use borrow.Author.Tests.{eqb-true, eq-eqb, ltb-true, lt-ltb}
 use native.Mathlib.Omega.{arith}
 use mathlib.Core.Logic.{⊎_elim, ◌↔◌, ◌⊎◌, inl, inr}
 use Rattle.std.specs.List.{list_all}
-use Rattle.base.specs.Lists.{has, Each, filter, rising, bit, count, all, nth, rest, is_empty}
+use Rattle.base.specs.Lists.{has, Each, filter, rising, bit, all, nth, rest, is_empty}
 use Rattle.base.proofs.Bools.{by_cases, or_cases, and_both, or_left, or_right, and-true}
 
 -- ## What a list has
@@ -209,20 +209,6 @@ rising-append a m (x ∷ xs) ys le top r s =
 pub bit-small : (t : Bool) → bit t ≤ 1
 bit-small true = omega arith
 bit-small false = omega arith
-
--- a rising list has each number once, or not at all
-pub rising-once : (a : ℕ) (xs : List ℕ) → rising a xs ≡ true → (x : ℕ) → count xs x ≡ bit (has xs x)
-unfolding count has
-rising-once a [] r x = refl
-rising-once a (y ∷ ys) r x = go (eqb x y) refl (has ys x) refl (rising-once y ys ((rising-cons a y ys).0 r).1 x)
-  where
-    above : has ys x ≡ true → y < x
-    above = rising-above y ys ((rising-cons a y ys).0 r).1 x
-
-    go : (t : Bool) → eqb x y ≡ t → (u : Bool) → has ys x ≡ u → count ys x ≡ bit (has ys x) → count (y ∷ ys) x ≡ bit (has (y ∷ ys) x)
-    go true e true f ih = absurd (omega (arith, eqb-true x y e, above f))
-    go true e false f ih = rw (has_here, ih, f) (omega (arith, ap bit e))
-    go false e u f ih = rw (has_there, ih) (omega (arith, ap bit e))
 
 -- ## Parts of a list
 

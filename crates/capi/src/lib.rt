@@ -22,6 +22,7 @@ ghost use Rattle.capi.specs.Version.{version};
 use marshal::{page_into, settle_held_into, settle_into, step_held_into, step_into};
 use marshal_runs::{run_action_into, run_read_into, run_write_into};
 use marshal_text::{list_into, parse_line_into, print_action_into, print_opening_into};
+use model::refusals::number_of;
 use opening::open;
 use runfile::FileOpening;
 use step::bytes_refusal;
@@ -67,7 +68,7 @@ pub extern "C" fn hall_open(
     ensures bytes { hall.new
         ≡ (open_on hall.old (opening_of n founders (v1 ∷ v2 ∷ v3 ∷ v4 ∷ v5 ∷ v6 ∷ v7 ∷ v8 ∷ []))).bytes }
 {
-    open(hall, n, founders, [v1, v2, v3, v4, v5, v6, v7, v8])
+    number_of(open(hall, n, founders, [v1, v2, v3, v4, v5, v6, v7, v8]))
 }
 
 // A step of kind k at recorder r with arguments a and b.
@@ -127,7 +128,7 @@ pub extern "C" fn hall_settle_held(hall: &mut [u8], undo: &mut [u8], answer: &mu
 pub extern "C" fn hall_step_back(hall: &mut [u8], undo: &mut [u8]) -> u32
     ensures { StepsBack hall.old undo.old result hall.new undo.new }
 {
-    step_back(hall, undo)
+    number_of(step_back(hall, undo))
 }
 
 // The page of recorder r with a place of its order.
@@ -144,7 +145,7 @@ pub extern "C" fn hall_page(hall: &[u8], r: u32, place: u32, page: &mut [u8]) ->
 pub extern "C" fn hall_check(hall: &[u8]) -> u32
     ensures { result ≡ bytes_number hall.now }
 {
-    bytes_refusal(hall)
+    number_of(bytes_refusal(hall))
 }
 
 // The opening of a run file.

@@ -37,11 +37,3 @@ pub first-stands : (xs : List ℕ) (x : ℕ) → first_of xs ≡ some x → xs �
 unfolding first_of
 first-stands [] x e = absurd (no_value e)
 first-stands (y ∷ ys) x e = let q : y ≡ x = cc in ap (λ (z : ℕ). z ∷ ys) q
-
-pub list-waits : (l : ByteList) (x : ℕ) → first_of (items l) ≡ some x → 0 < l.len
-unfolding first_of
-list-waits l x e = go l.len e
-  where
-    go : (n : ℕ) → first_of (take n l.places) ≡ some x → 0 < n
-    go zero e = absurd (no_value e)
-    go (suc n) e = omega arith

@@ -17,14 +17,7 @@ ghost use Rattle.codec.specs.ByteList.{items, list_at, list_bytes, all_in, list_
 ghost use Rattle.codec.specs.Ends.{first_of, found_of};
 ghost use Rattle.codec.specs.Flags.{set_of};
 
-// Do both hold? Both are looked at, and there is no branch: for loops that gather.
-pub fn both(a: bool, b: bool) -> bool
-    ensures { result ≡ (a && b) }
-{
-    a & b
-}
-
-// Does one of two hold? Both are looked at, and there is no branch.
+// Does one of two hold? Both are looked at, and there is no branch: for loops that gather.
 pub fn or(a: bool, b: bool) -> bool
     ensures { result ≡ (a || b) }
 {
@@ -197,11 +190,7 @@ pub fn first_of(l: ByteList) -> Option<u8>
     requires { l.len ≤ list_capacity }
     ensures { found_of result ≡ first_of (items l) }
 {
-    if l.len == 0 {
-        None
-    } else {
-        Some(l.places[0])
-    }
+    if l.len == 0 { None } else { Some(l.places[0]) }
 }
 
 // A list without its first byte.

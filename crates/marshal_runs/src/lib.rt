@@ -11,7 +11,7 @@ ghost use Rattle.calls.specs.Lent.{Leaves};
 ghost use Rattle.calls.specs.RunsLent.{run_read_lent, run_action_lent, run_write_lent, written_words};
 
 use lent::{ANSWER, answer_into, high, low, put_values};
-use model::refusals;
+use model::refusals::Refusal;
 use runfile::FileOpening;
 
 // The opening of a run file, written into a lent slice: N, the founders, the offset of the first action, how many actions
@@ -21,7 +21,7 @@ pub fn run_read_into(file: &[u8], out: &mut [u8]) -> u32
         result file.now out.new }
 {
     match runfile::read_opening(file) {
-        Err(why) => why,
+        Err(why) => u32::from(why),
         Ok(o) => {
             let x = o.opening;
             let [v1, v2, v3, v4, v5, v6, v7, v8] = x.words;
@@ -67,8 +67,8 @@ fn try_write(o: FileOpening, actions: &[u32]) -> u32
 {
     let mut none = [0u8; 1];
     match runfile::write(&mut none, o, actions) {
-        Ok(_) => refusals::SHORT,
-        Err(early) => early,
+        Ok(_) => u32::from(Refusal::Short),
+        Err(early) => u32::from(early),
     }
 }
 
@@ -82,7 +82,7 @@ pub fn run_write_into(file: &mut [u8], o: FileOpening, actions: &[u32], out: &mu
         return try_write(o, actions);
     }
     match runfile::write(file, o, actions) {
-        Err(number) => number,
+        Err(why) => u32::from(why),
         Ok(length) => {
             put_values(out, &[length as u32]);
             0

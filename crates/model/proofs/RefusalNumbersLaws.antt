@@ -2,6 +2,7 @@
 use Rattle.std.proofs.Common.{◌≡◌, ℕ, Result, Ok, Err, ◌≢◌, arith}
 use mathlib.Core.Path.{refl, sym, ap, ◌∙◌}
 use borrow.Author.Tests.{ne_eqb}
+use Rattle.std.specs.Prelude.{true, false, List, [], ◌∷◌, eqb}
 use Rattle.std.specs.Result.{IsErrAnd, result_and}
 use Rattle.std.proofs.lemmas.Result.{err_from_is_err_and}
 use Rattle.base.specs.Chains.{◌⨾◌}
@@ -59,3 +60,40 @@ pub and-chain : {S T : Type 0} (x : Result S Refusal) (y : Result T Refusal) →
 unfolding ◌⨾◌
 and-chain (Ok x) y = refl
 and-chain (Err why) y = ends why _ refl
+
+-- ## No two refusals have the same number
+
+-- the first refusal of a list that has a number
+found : ℕ → List Refusal → Refusal
+found n [] = Undo
+found n (why ∷ l) = elim (eqb n (number why)) [ true ↦ why | false ↦ found n l ]
+
+abbrev every : List Refusal
+every = Kind ∷ Recorder ∷ Unused ∷ ViewNumber ∷ Set ∷ Opening ∷ Short ∷ File ∷ Bytes ∷ TooMany ∷ NotRising ∷ NotFormed ∷ NoMember ∷ NotAbove ∷ Phase ∷ Nothing ∷ NotYet ∷ Full ∷ Votes ∷ NotPrimary ∷ []
+
+back : (why : Refusal) → found (number why) every ≡ why
+unfolding found
+back Kind = refl
+back Recorder = refl
+back Unused = refl
+back ViewNumber = refl
+back Set = refl
+back Opening = refl
+back Short = refl
+back File = refl
+back Bytes = refl
+back TooMany = refl
+back NotRising = refl
+back NotFormed = refl
+back NoMember = refl
+back NotAbove = refl
+back Phase = refl
+back Nothing = refl
+back NotYet = refl
+back Full = refl
+back Votes = refl
+back NotPrimary = refl
+back Undo = refl
+
+pub same-refusal : (a b : Refusal) → number a ≡ number b → a ≡ b
+same-refusal a b e = sym (back a) ∙ ap (λ n. found n every) e ∙ back b

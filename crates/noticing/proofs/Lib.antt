@@ -1,4 +1,3 @@
 pub mod ReadsLaws
 pub mod NoticesLaws
 pub mod ValuesLaws
-pub mod ChainLaws

@@ -1,10 +1,10 @@
--- Loops over the cells of a table: what is left gives what the whole gives. Assumes nothing.
+-- The cells of a table, tested one by one. Assumes nothing.
 use Prim.Native.Nat.{ℕ, zero, suc, ◌+◌, ◌-◌, ◌*◌, ◌≤◌, ◌<◌}
 use native.Mathlib.Omega.{arith}
 use native.Mathlib.Nat.{mul-le-mul_right, zero-mul}
 use native.Mathlib.Numerals.{one-add}
 use mathlib.Core.Path.{◌≡◌, refl, sym, ap, ap₂, ◌∙◌}
-use mathlib.Core.Bool.{Bool, true, false, ◌&&◌}
+use mathlib.Core.Bool.{Bool, false, ◌&&◌}
 use mathlib.Core.List.{List, ◌∷◌}
 use lib.Dec.{leb}
 use lib.ListN.{length, get_or, take, drop}
@@ -14,7 +14,7 @@ use Rattle.std.specs.List.{list_all, range_with_len}
 use Rattle.codec.specs.Bytes.{part, all_zero}
 use Rattle.codec.proofs.BytesLaws.{part-cons, drop-part}
 use Rattle.codec.specs.Form.{Form}
-use Rattle.codec.proofs.CellsLaws.{suc-cells, valid_all-rest}
+use Rattle.codec.proofs.CellsLaws.{suc-cells}
 use Rattle.codec.specs.Cells.{valid_all, decode_all, cells}
 use Rattle.codec.specs.Bounded.{bounded}
 use Rattle.ranges.specs.Tests.{tested}
@@ -84,60 +84,23 @@ module _ {A : Type 0} {k : ℕ} (F : Form A k) where
         ∙ bounded-decode F cap (get_or b o 0) (part (o + 1) (cap * k) b)
         ∙ decode_all-first (get_or b o 0) (cap * k) (drop (o + 1) b) (mul-le-mul_right k l)
 
-  -- m cells from offset o of b
-  module _ (o m : ℕ) (b : List ℕ) where
-    -- those from i on give what all give
-    abbrev pub Left : ℕ → Type 0
-    Left i = valid_all F m (drop o b) ≡ valid_all F (m - i) (drop (o + i * k) b)
+  -- n cells from offset o of b up to offset t, of which the first m are valid and the others blank
+  module _ (o m : ℕ) (b : List ℕ) (n t : ℕ) (h : m ≤ n) (e : o + n * k ≡ t) where
+    pub cells-part : (cells F m n).valid (part o (n * k) b) ≡ valid_all F m (drop o b) && all_zero (part (o + m * k) (t - (o + m * k)) b)
+    unfolding cells
+    cells-part =
+        let l = mul-le-mul_right k h in
+        let r : n * k - m * k ≡ t - (o + m * k) = omega arith in
+        ap₂ ◌&&◌ (valid_all-first m (n * k) (drop o b) l)
+        (ap all_zero (drop-part o (n * k) (m * k) b l ∙ ap (λ (j : ℕ). part (o + m * k) j b) r))
 
-    pub left-start : Left 0
-    left-start =
-        let e : m - 0 ≡ m = omega arith in
+    -- by a list of their indices
+    pub cells-list : list_all (λ (i : ℕ). F.valid (part (o + i * k) k b)) (range_with_len 0 m) && all_zero (part (o + m * k) (t - (o + m * k)) b)
+        ≡ (cells F m n).valid (part o (n * k) b)
+    cells-list =
         let f : o + 0 * k ≡ o = omega (arith, zero-mul k) in
-        sym (ap₂ (λ (i j : ℕ). valid_all F i (drop j b)) e f)
-
-    next-cell : (i : ℕ) → i < m → valid_all F (m - i) (drop (o + i * k) b) ≡ F.valid (part (o + i * k) k b) && valid_all F (m - (i + 1)) (drop (o + (i + 1) * k) b)
-    next-cell i h =
-        ap (valid_all F (m - i)) (sym (drop-drop (i * k) o b))
-        ∙ valid_all-rest F m i (drop o b) h
-        ∙ ap₂ (λ (x y : List ℕ). F.valid (take k x) && valid_all F (m - (i + 1)) y) (drop-drop (i * k) o b) (drop-drop ((i + 1) * k) o b)
-
-    pub left-next : (i : ℕ) → i < m → F.valid (part (o + i * k) k b) ≡ true → Left i → Left (i + 1)
-    left-next i h v l = l ∙ next-cell i h ∙ ap (λ (t : Bool). t && valid_all F (m - (i + 1)) (drop (o + (i + 1) * k) b)) v
-
-    -- n cells, of which the first m are valid and the others blank, up to offset t
-    module _ (n t : ℕ) (h : m ≤ n) (e : o + n * k ≡ t) where
-      pub cells-part : (cells F m n).valid (part o (n * k) b) ≡ valid_all F m (drop o b) && all_zero (part (o + m * k) (t - (o + m * k)) b)
-      unfolding cells
-      cells-part =
-          let l = mul-le-mul_right k h in
-          let r : n * k - m * k ≡ t - (o + m * k) = omega arith in
-          ap₂ ◌&&◌ (valid_all-first m (n * k) (drop o b) l)
-          (ap all_zero (drop-part o (n * k) (m * k) b l ∙ ap (λ (j : ℕ). part (o + m * k) j b) r))
-
-      -- by a list of their indices
-      pub cells-list : list_all (λ (i : ℕ). F.valid (part (o + i * k) k b)) (range_with_len 0 m) && all_zero (part (o + m * k) (t - (o + m * k)) b)
-          ≡ (cells F m n).valid (part o (n * k) b)
-      cells-list =
-          let f : o + 0 * k ≡ o = omega (arith, zero-mul k) in
-          ap (λ (u : Bool). u && all_zero (part (o + m * k) (t - (o + m * k)) b)) (valid_all-list F o 0 m b ∙ ap (λ (j : ℕ). valid_all F m (drop j b)) f)
-          ∙ sym cells-part
-
-      -- a cell is not valid
-      pub cells-fail : (i : ℕ) → i < m → F.valid (part (o + i * k) k b) ≡ false → Left i → (cells F m n).valid (part o (n * k) b) ≡ false
-      cells-fail i j v l =
-          cells-part
-          ∙ ap (λ (u : Bool). u && all_zero (part (o + m * k) (t - (o + m * k)) b))
-          (l ∙ next-cell i j ∙ ap (λ (u : Bool). u && valid_all F (m - (i + 1)) (drop (o + (i + 1) * k) b)) v)
-
-      -- all cells are
-      pub cells-done : (i : ℕ) → m ≤ i → Left i → (cells F m n).valid (part o (n * k) b) ≡ all_zero (part (o + m * k) (t - (o + m * k)) b)
-      unfolding valid_all
-      cells-done i j l =
-          let z : m - i ≡ 0 = omega arith in
-          cells-part
-          ∙ ap (λ (u : Bool). u && all_zero (part (o + m * k) (t - (o + m * k)) b))
-          (l ∙ ap (λ (x : ℕ). valid_all F x (drop (o + i * k) b)) z)
+        ap (λ (u : Bool). u && all_zero (part (o + m * k) (t - (o + m * k)) b)) (valid_all-list F o 0 m b ∙ ap (λ (j : ℕ). valid_all F m (drop j b)) f)
+        ∙ sym cells-part
 
 -- cells by their tests alone
 pub by_test : {A : Type 0} {k : ℕ} (F : Form A k) (m n : ℕ) (b : List ℕ) → (cells (tested k F.valid) m n).valid b ≡ (cells F m n).valid b

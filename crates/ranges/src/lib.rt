@@ -177,12 +177,8 @@ fn valid_recorder(b: &[u8], at: usize) -> bool
     requires { at + recorder_size ≤ length b.now }
     ensures { result ≡ recorder_form.valid (part at recorder_size b.now) }
 {
-    valid_byte(
-        b,
-        at + layout::RECORDER_PHASE,
-        FIRST_PHASE,
-        LAST_PHASE,
-    ) & valid_mark(b, at + layout::RECORDER_SEQUENCE, SEQUENCE_MARK)
+    valid_byte(b, at + layout::RECORDER_PHASE, FIRST_PHASE, LAST_PHASE)
+        & valid_mark(b, at + layout::RECORDER_SEQUENCE, SEQUENCE_MARK)
         & codec::valid_list(
             b,
             at + layout::RECORDER_BUFFER,

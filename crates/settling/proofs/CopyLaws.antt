@@ -5,6 +5,11 @@ use mathlib.Core.Path.{◌≡◌, refl, sym, ap, ap₂, ◌∙◌, subst}
 use mathlib.Core.Bool.{Bool, true, false, not, ◌||◌, true≢false}
 use mathlib.Core.List.{List, [], ◌∷◌, ◌++◌, append-nil}
 use lib.Dec.{eqb}
+use Rattle.std.proofs.Common.{◌≢◌, Result, Ok, Err}
+use Rattle.std.specs.Result.{IsErrAnd}
+use Rattle.std.proofs.lemmas.Result.{err_from_is_err_and}
+use Rattle.base.specs.Chains.{refuse}
+use Rattle.base.proofs.Bools.{by_cases}
 use lib.ListN.{length, get_or, take, drop}
 use lib.Seq.{sets, sets-eq, length-take-le, take_at, drop-length}
 use borrow.Author.Tests.{ne_eqb}
@@ -16,12 +21,14 @@ use Rattle.model.specs.Answers.{Plain}
 use Rattle.model.specs.Call.{Words, WordsIn, hl3}
 use Rattle.model.specs.Run.{run}
 use Rattle.model.specs.Settle.{greatest_view, cannot_settle, Settling, settled, refused, calls_taken, plain_settle, max_turns, settle_from, settle}
+use Rattle.model.specs.declared.refusals.Refusal.{Refusal}
+use Rattle.model.specs.RefusalNumbers.{number}
+use Rattle.model.proofs.RefusalNumbersLaws.{has-number}
 use Rattle.store.specs.Layout.{stored_length}
 use Rattle.store.specs.Valid.{ValidHall}
 use Rattle.store.specs.StoredForm.{stored, hall_of, is_stored}
 use Rattle.store.proofs.StoredFormLaws.{stored-block, is_stored-long, hall_of-valid, stored-hall_of, stored-slice, is_stored-first, hall_of-first}
 use Rattle.store.proofs.KeepValid.{run-valid}
-use Rattle.answer.specs.declared.Settled.{Settled}
 use Rattle.answer.specs.Meaning.{settled_meaning}
 use Rattle.calls.specs.Calls.{run_on, settling_on, settle_on}
 use Rattle.calls.specs.Steps.{Settles}
@@ -63,10 +70,15 @@ barred-last b count s e ne p i =
     ap not (i ∙ ap (is_primary h) last)
     ∙ sym (ap (λ (t : Bool). t || not (is_primary h (greatest_view h))) (ne_eqb (greatest_view h) 0 (λ z. omega (arith, low, last))))
 
+-- no 42
+pub not-barred : (h : Hall) → 0 ≡ refuse (cannot_settle h) 42 → cannot_settle h ≡ false
+unfolding refuse
+not-barred h e = by_cases (cannot_settle h) (λ t. let z : ◌≡◌ {A = ℕ} 0 42 = e ∙ ap (λ (x : Bool). refuse x 42) t in absurd (omega arith)) (λ t. t)
+
 -- a hall that is not barred has a view
-pub view-there : (b : List ℕ) (count : ℕ) → count ≡ length (hall_of b).service.created → (t : Bool) → t ≡ cannot_settle (hall_of b) → t ≡ false → 1 ≤ count
-view-there b count e t is f =
-    let some : count ≡ 0 → ⊥ = λ z. true≢false (barred-none b count e z ∙ sym is ∙ f) in
+pub view-there : (b : List ℕ) (count : ℕ) → count ≡ length (hall_of b).service.created → 0 ≡ refuse (cannot_settle (hall_of b)) 42 → 1 ≤ count
+view-there b count e free =
+    let some : count ≢ 0 = λ z. true≢false (barred-none b count e z ∙ not-barred (hall_of b) free) in
     omega (arith, some)
 
 -- ## The settle of a slice, case by case
@@ -82,40 +94,62 @@ pub settle_goes : (h : Hall) → cannot_settle h ≡ false → settle hl3 h ≡ 
 unfolding settle by-barred
 settle_goes h t = ap (by-barred h) t
 
--- a refusal on a copy
-copy-refused : (b : List ℕ) (n : ℕ) → (n ≡ 0 → ⊥) → settling_on b ≡ refused n → (x : Settled) → x ≡ Settled.Refused n → (c : List ℕ) → SettledCopy b x c
-unfolding settle_on settled_meaning plain_settle
-copy-refused b n ne is x e c =
-    record {
-      answer = ap settled_meaning e ∙ sym (ap plain_settle is);
-      bytes = λ z. absurd (ne (sym (ap (λ (y : Settled). (settled_meaning y).number) e) ∙ z));
-    }
+-- 42
+barred-is : (h : Hall) (why : Refusal) → number why ≡ refuse (cannot_settle h) 42 → settle hl3 h ≡ refused (number why)
+unfolding refuse
+barred-is h why e =
+    by_cases (cannot_settle h)
+    (λ t. settle-barred h t ∙ ap refused (sym (e ∙ ap (λ (x : Bool). refuse x 42) t)))
+    (λ t. absurd (has-number why (e ∙ ap (λ (x : Bool). refuse x 42) t)))
 
 -- 31
-broken-is : (b : List ℕ) (n : ℕ) → n ≡ bytes_number b → (n ≡ 0 → ⊥) → settling_on b ≡ refused n
-broken-is b n e ne = by (is_stored b) refl
-  where
-    by : (t : Bool) → is_stored b ≡ t → settling_on b ≡ refused n
-    by true t = absurd (ne (e ∙ sym (bytes-hall b t)))
-    by false t = settling-broken b t ∙ ap refused (bytes-broken b t ∙ sym e)
+broken-is : (b : List ℕ) (why : Refusal) → number why ≡ bytes_number b → settling_on b ≡ refused (number why)
+broken-is b why e =
+    by_cases (is_stored b)
+    (λ t. absurd (has-number why (e ∙ sym (bytes-hall b t))))
+    (λ t. settling-broken b t ∙ ap refused (bytes-broken b t ∙ sym e))
 
-pub broken-number : (b : List ℕ) (n : ℕ) → n ≡ bytes_number b → (n ≡ 0 → ⊥) → n ≡ (settle_on b).answer.number
+pub broken-number : (b : List ℕ) (why : Refusal) → number why ≡ bytes_number b → number why ≡ (settle_on b).answer.number
 unfolding settle_on plain_settle
-broken-number b n e ne = sym (ap (λ (x : Settling). (plain_settle x).number) (broken-is b n e ne))
+broken-number b why e = sym (ap (λ (x : Settling). (plain_settle x).number) (broken-is b why e))
 
-pub settle-broken : (b : List ℕ) (n : ℕ) → n ≡ bytes_number b → (n ≡ 0 → ⊥) → (x : Settled) → x ≡ Settled.Refused n → Settles b x b
-unfolding settle_on plain_settle settled_meaning calls_taken run_on
-settle-broken b n e ne x is =
-    let on = broken-is b n e ne in
-    record {
-      answer = ap settled_meaning is ∙ sym (ap plain_settle on);
-      bytes = sym (ap (λ (y : Settling). run_on b (calls_taken y)) on);
-    }
+-- at the exit of a `?`
+module _ (x : Result ℕ Refusal) (why : Refusal) (exit : IsErrAnd x (λ y. y ≡ why)) where
+  means : settled_meaning x ≡ settled_meaning (Err why)
+  means = let p = err_from_is_err_and x exit in ap settled_meaning (p.1 ∙ ap Err p.2)
 
--- 42
-pub copy-barred : (b : List ℕ) → is_stored b ≡ true → (t : Bool) → t ≡ cannot_settle (hall_of b) → t ≡ true
-    → (x : Settled) → x ≡ Settled.Refused 42 → (c : List ℕ) → SettledCopy b x c
-copy-barred b s t e y x is c = copy-refused b 42 (λ z. absurd (omega arith)) (settling-held b s ∙ settle-barred (hall_of b) (sym e ∙ y)) x is c
+  refuses : (settled_meaning x).number ≡ 0 → ⊥
+  refuses z = has-number why (sym (ap (λ (p : Plain). p.number) means) ∙ z)
+
+  pub settle-broken : (b : List ℕ) → number why ≡ bytes_number b → Settles b x b
+  unfolding settle_on plain_settle calls_taken run_on
+  settle-broken b e =
+      let on = broken-is b why e in
+      record {
+        answer = means ∙ sym (ap plain_settle on);
+        bytes = sym (ap (λ (y : Settling). run_on b (calls_taken y)) on);
+      }
+
+  pub copy-barred : (b : List ℕ) → is_stored b ≡ true → number why ≡ refuse (cannot_settle (hall_of b)) 42 → (c : List ℕ) → SettledCopy b x c
+  unfolding settle_on plain_settle
+  copy-barred b s e c =
+      record {
+        answer = means ∙ sym (ap plain_settle (settling-held b s ∙ barred-is (hall_of b) why e));
+        bytes = λ z. absurd (refuses z);
+      }
+
+  -- a settle refused on a copy leaves the bytes
+  pub settle-refused : (b c : List ℕ) → SettledCopy b (Err why) c → Settles b x b
+  unfolding settle_on plain_settle calls_taken run_on
+  settle-refused b c copy = record { answer = means ∙ copy.answer; bytes = by (settling_on b) refl }
+    where
+      none-taken : (ws : List Words) → length ws ≡ 0 → b ≡ run_on b ws
+      none-taken [] l = refl
+      none-taken (w ∷ ws) l = absurd (omega arith)
+
+      by : (y : Settling) → settling_on b ≡ y → b ≡ run_on b (calls_taken y)
+      by (settled ws) i = none-taken ws (sym (ap (λ (p : Plain). get_or p.values 0 0) (copy.answer ∙ ap plain_settle i)))
+      by (refused k) i = refl
 
 -- ## The copy
 
@@ -182,12 +216,12 @@ module _ (b : List ℕ) (s : is_stored b ≡ true) (w : List ℕ) (long : length
       }
 
   -- turns on the copy are the settle's
-  pub copy-settled : (t : Bool) → t ≡ cannot_settle (hall_of b) → t ≡ false → (v : View) → ViewIs (hall_of b) (greatest_view (hall_of b)) v
-      → (x : Settled) (d : List ℕ) → TurnsTaken c v x d → SettledCopy b x d
+  pub copy-settled : 0 ≡ refuse (cannot_settle (hall_of b)) 42 → (v : View) → ViewIs (hall_of b) (greatest_view (hall_of b)) v
+      → (x : Result ℕ Refusal) (d : List ℕ) → TurnsTaken c v x d → SettledCopy b x d
   unfolding settle_on
-  copy-settled t e f v i x d taken =
+  copy-settled free v i x d taken =
       let same : settle_from hl3 max_turns v.number (hall_of c) ≡ settle hl3 (hall_of b) =
-      ap₂ (λ (g : ℕ) (k : Hall). settle_from hl3 max_turns g k) i.number copy-hall ∙ sym (settle_goes (hall_of b) (sym e ∙ f)) in
+      ap₂ (λ (g : ℕ) (k : Hall). settle_from hl3 max_turns g k) i.number copy-hall ∙ sym (settle_goes (hall_of b) (not-barred (hall_of b) free)) in
       let on = settling-held b s in
       record {
         answer = taken.answer ∙ ap plain_settle (same ∙ sym on);
@@ -200,35 +234,18 @@ module _ (b : List ℕ) (s : is_stored b ≡ true) (w : List ℕ) (long : length
 
 -- ## The answer of the whole
 
--- the check's number is 0: the slice holds a hall
-pub checked : (b : List ℕ) (n : ℕ) → n ≡ bytes_number b → n ≡ 0 → is_stored b ≡ true
-checked b n e z = bytes-hold b (sym e ∙ z)
+-- the check refuses nothing: the slice holds a hall
+pub checked : (b : List ℕ) → 0 ≡ bytes_number b → is_stored b ≡ true
+checked b e = bytes-hold b (sym e)
 
 -- its copy is written back
-pub settle-taken : (b : List ℕ) → is_stored b ≡ true → (n : ℕ) (x : Settled) → x ≡ Settled.Count n → (c : List ℕ) → SettledCopy b x c → length c ≡ stored_length
-    → (d : List ℕ) → d ≡ sets b 0 (take stored_length c) → Settles b x d
-unfolding settled_meaning
-settle-taken b s n x e c copy l d is =
-    let z : (settled_meaning x).number ≡ 0 = ap (λ (y : Settled). (settled_meaning y).number) e in
+pub settle-taken : (b : List ℕ) → is_stored b ≡ true → (n : ℕ) (c : List ℕ) → SettledCopy b (Ok n) c → length c ≡ stored_length
+    → (d : List ℕ) → d ≡ sets b 0 (take stored_length c) → Settles b (Ok n) d
+settle-taken b s n c copy l d is =
     let whole : take stored_length c ≡ c = take_whole stored_length c l in
     record {
       answer = copy.answer;
       bytes =
           is ∙ ap (sets b 0) whole ∙ front-written stored_length c b l (is_stored-long b s)
-          ∙ ap (λ (r : List ℕ). r ++ drop stored_length b) (copy.bytes z) ∙ copy-back b s;
+          ∙ ap (λ (r : List ℕ). r ++ drop stored_length b) (copy.bytes refl) ∙ copy-back b s;
     }
-
--- a refused one leaves the bytes
-pub settle-refused : (b : List ℕ) (n : ℕ) (x : Settled) → x ≡ Settled.Refused n → (c : List ℕ) → SettledCopy b x c → Settles b x b
-unfolding settle_on settled_meaning plain_settle calls_taken run_on
-settle-refused b n x e c copy = record { answer = copy.answer; bytes = by (settling_on b) refl }
-  where
-    none-taken : (ws : List Words) → length ws ≡ 0 → b ≡ run_on b ws
-    none-taken [] l = refl
-    none-taken (w ∷ ws) l = absurd (omega arith)
-
-    by : (y : Settling) → settling_on b ≡ y → b ≡ run_on b (calls_taken y)
-    by (settled ws) i =
-        none-taken ws
-        (sym (ap (λ (p : Plain). get_or p.values 0 0) (sym (ap settled_meaning e) ∙ copy.answer ∙ ap plain_settle i)))
-    by (refused k) i = refl

@@ -6,10 +6,14 @@ use mathlib.Core.Bool.{true}
 use mathlib.Core.List.{List, [], ◌∷◌, ◌++◌}
 use lib.ListN.{length, length-append}
 use borrow.Author.Tests.{eq-eqb}
+use Rattle.std.specs.Prelude.{Ok, Err}
 use Rattle.quorum.specs.Sets.{members, mask}
 use Rattle.model.specs.Hall.{Hall}
 use Rattle.model.specs.Answers.{Answer, Plain, plain, accepted}
 use Rattle.model.specs.Call.{Words, hl3, step}
+use Rattle.model.specs.declared.refusals.Refusal.{Refusal}
+use Rattle.model.specs.declared.kinds.Kind as code
+use Rattle.model.specs.KindNumbers.{kind_number}
 use Rattle.model.specs.Settle as model
 use Rattle.model.specs.Settle.{greatest_view, settle_call, settle_calls, takes, full, none, turn_of, Settling, settled, refused, and_then, calls_taken, plain_settle, max_turns, settle_from}
 use Rattle.model.proofs.Settling.TurnLaws.{Found, Finds, finds, call-of}
@@ -19,8 +23,6 @@ use Rattle.store.specs.Valid.{ValidHall}
 use Rattle.store.specs.StoredForm.{hall_of, is_stored}
 use Rattle.store.proofs.StoredFormLaws.{hall_of-valid}
 use Rattle.store.proofs.MasksLaws.{members-mask}
-use Rattle.answer.specs.declared.Settled.{Settled}
-use Rattle.answer.specs.Meaning.{settled_meaning}
 use Rattle.calls.specs.Calls.{step_on, run_on}
 use Rattle.calls.proofs.HeldSteps.{step-answer, step-holds, step-hall}
 use Rattle.progress.specs.AnyTurn.{any_turn}
@@ -119,9 +121,9 @@ module _ (b : List ℕ) (v : View) (count : ℕ) (c : List ℕ) (go : Going b v 
       ∙ ap (λ (u : model.Turn). before go.taken (after_turn u)) (sym (is-turn c v go.in_view t is))
 
   -- the call that it takes
-  module _ (k r : ℕ) (takes-it : t ≡ Turn.Takes k r) where
+  module _ (k : code.Kind) (r : ℕ) (takes-it : t ≡ Turn.Takes k r) where
     abbrev w : Words
-    w = settle_call number k r
+    w = settle_call number (kind_number k) r
 
     low : number < 2 ^ 32
     low = omega (arith, greatest-number here (hall_of-valid c go.in_view.holds), go.in_view.view.number)
@@ -142,7 +144,7 @@ module _ (b : List ℕ) (v : View) (count : ℕ) (c : List ℕ) (go : Going b v 
     taken-accepts = eq-eqb _ 0 (ap (λ (x : Answer). (plain x).number) (step-answer c go.in_view.holds w) ∙ finds-it.number)
 
     pub taken-low : w.a < 2 ^ 32
-    taken-low = call-low number k r low
+    taken-low = call-low number (kind_number k) r low
 
     same : SameViews here (step hl3 here w).hall
     same =
@@ -154,7 +156,7 @@ module _ (b : List ℕ) (v : View) (count : ℕ) (c : List ℕ) (go : Going b v 
     unfolding after_turn found
     going_next d e =
         let held = go.in_view.holds in
-        let hall-is : hall_of d ≡ (step hl3 here w).hall = ap hall_of e ∙ step-hall c held w (call-low number k r low) in
+        let hall-is : hall_of d ≡ (step hl3 here w).hall = ap hall_of e ∙ step-hall c held w (call-low number (kind_number k) r low) in
         let views : SameViews here (hall_of d) = subst (SameViews here) (sym hall-is) same in
         let greatest = same-greatest here (hall_of d) views in
         record {
@@ -163,7 +165,7 @@ module _ (b : List ℕ) (v : View) (count : ℕ) (c : List ℕ) (go : Going b v 
           bytes = e ∙ ap (λ (x : List ℕ). (step_on x w).bytes) go.bytes ∙ run-last b go.taken w;
           in_view =
               record {
-                holds = ap is_stored e ∙ step-holds c held w (call-low number k r low);
+                holds = ap is_stored e ∙ step-holds c held w (call-low number (kind_number k) r low);
                 view =
                     record {
                       number = go.in_view.view.number ∙ sym greatest;
@@ -181,26 +183,23 @@ module _ (b : List ℕ) (v : View) (count : ℕ) (c : List ℕ) (go : Going b v 
     next-taken d e = refl
 
   -- it meets 40
-  pub going-full : t ≡ Turn.Full → (x : Settled) → x ≡ Settled.Refused 40 → TurnsTaken b v x c
-  unfolding settled_meaning after_turn found plain_settle
-  going-full f x e =
+  pub going-full : t ≡ Turn.Full → TurnsTaken b v (Err Refusal.Full) c
+  unfolding after_turn found plain_settle
+  going-full f =
       let whole = left_is ∙ ap (λ (u : Turn). before go.taken (after_turn (found number u))) f ∙ before-refused go.taken 40 in
-      record {
-        answer = ap settled_meaning e ∙ sym (ap plain_settle whole);
-        bytes = λ z. let n : ◌≡◌ {A = ℕ} 40 0 = sym (ap (λ (y : Settled). (settled_meaning y).number) e) ∙ z in absurd (omega arith);
-      }
+      record { answer = sym (ap plain_settle whole); bytes = λ z. absurd (omega arith) }
 
   -- none is left: these are the settle's calls
   pub whole-done : t ≡ Turn.Nothing → settle_from hl3 max_turns number (hall_of b) ≡ settled go.taken
   unfolding after_turn found
   whole-done f = left_is ∙ ap (λ (u : Turn). before go.taken (after_turn (found number u))) f ∙ before-settled go.taken
 
-  pub going_done : t ≡ Turn.Nothing → (x : Settled) → x ≡ Settled.Count count → TurnsTaken b v x c
-  unfolding settled_meaning plain_settle calls_taken counted
-  going_done f x e =
+  pub going_done : t ≡ Turn.Nothing → TurnsTaken b v (Ok count) c
+  unfolding plain_settle calls_taken counted
+  going_done f =
       let whole = whole-done f in
       record {
-        answer = ap settled_meaning e ∙ ap counted (sym go.many) ∙ sym (ap plain_settle whole);
+        answer = ap counted (sym go.many) ∙ sym (ap plain_settle whole);
         bytes = λ z. go.bytes ∙ sym (ap (λ (s : Settling). run_on b (calls_taken s)) whole);
       }
 
@@ -212,12 +211,11 @@ whole_out b v count c go out =
     let z : max_turns - count ≡ 0 = omega arith in
     go.left ∙ ap (λ n. before go.taken (settle_from hl3 n v.number (hall_of c))) z ∙ before-settled go.taken
 
-pub going-out : (b : List ℕ) (v : View) (count : ℕ) (c : List ℕ) → Going b v count c → max_turns ≤ count → (x : Settled) → x ≡ Settled.Count count
-    → TurnsTaken b v x c
-unfolding settled_meaning plain_settle calls_taken counted
-going-out b v count c go out x e =
-    let whole = whole_out b v count c go out in
+pub going-out : (b : List ℕ) (v : View) (count : ℕ) (c : List ℕ) → Going b v count c → max_turns ≡ count → TurnsTaken b v (Ok max_turns) c
+unfolding plain_settle calls_taken counted
+going-out b v count c go all =
+    let whole = whole_out b v count c go (omega (arith, all)) in
     record {
-      answer = ap settled_meaning e ∙ ap counted (sym go.many) ∙ sym (ap plain_settle whole);
+      answer = ap counted (all ∙ sym go.many) ∙ sym (ap plain_settle whole);
       bytes = λ y. go.bytes ∙ sym (ap (λ (s : Settling). run_on b (calls_taken s)) whole);
     }

@@ -2,14 +2,10 @@
 use Prim.Native.Nat.{ℕ, suc, ◌+◌, ◌-◌, ◌*◌, ◌≤◌, ◌<◌}
 use native.Mathlib.Omega.{arith}
 use mathlib.Core.Path.{◌≡◌, refl, sym, ap, ap₂, ◌∙◌}
-use mathlib.Core.Bool.{Bool, true, false, ◌&&◌, and-eq-true_iff, and_assoc, and-true, false≢true}
-use mathlib.Core.Logic.{⊎_elim}
+use mathlib.Core.Bool.{Bool, true, false, ◌&&◌, and_assoc, and-true}
 use mathlib.Core.List.{List, [], ◌∷◌, ◌++◌}
 use Rattle.base.specs.Lists.{has, all}
-use Rattle.base.specs.Numbers.{up_to}
-use Rattle.base.proofs.Bools.{by_cases}
-use Rattle.base.proofs.ListsLaws.{has-head, has-later, has-cons}
-use Rattle.base.proofs.NumbersLaws.{has-up_to}
+use Rattle.base.proofs.ListsLaws.{has-head, has-later}
 use Rattle.store.specs.Layout.{view_size, view_cells}
 use Rattle.ranges.specs.TableParts.{view_numbers, view_at}
 
@@ -28,24 +24,6 @@ module _ (p : ℕ → Bool) where
   pub all-snoc : (xs : List ℕ) (x : ℕ) → all p (xs ++ (x ∷ [])) ≡ all p xs && p x
   unfolding all
   all-snoc xs x = all_append xs (x ∷ []) ∙ ap (λ (t : Bool). all p xs && t) (and-true (p x))
-
-  pub all-at : (xs : List ℕ) (x : ℕ) → all p xs ≡ true → has xs x ≡ true → p x ≡ true
-  unfolding all has
-  all-at [] x a h = absurd (false≢true h)
-  all-at (y ∷ ys) x a h =
-      let t = (and-eq-true_iff (p y) (all p ys)).0 a in
-      ⊎_elim (λ e. ap p e ∙ t.0) (λ l. all-at ys x t.1 l) (has-cons y ys x h)
-
-  pub all_true : (xs : List ℕ) → ((x : ℕ) → has xs x ≡ true → p x ≡ true) → all p xs ≡ true
-  unfolding all
-  all_true [] h = refl
-  all_true (x ∷ xs) h = ap₂ ◌&&◌ (h x (has-head x xs)) (all_true xs (λ y k. h y (has-later x xs y k)))
-
-  pub all-fail : (m j : ℕ) → j < m → p (j + 1) ≡ false → all p (up_to m) ≡ false
-  all-fail m j l h =
-      by_cases (all p (up_to m))
-      (λ a. absurd (false≢true (sym h ∙ all-at (up_to m) (j + 1) a (has-up_to m (j + 1) (omega arith) (omega arith)))))
-      (λ a. a)
 
 -- the views from an index on
 module _ (m : ℕ) (b : List ℕ) where

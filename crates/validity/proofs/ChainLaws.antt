@@ -1,103 +1,28 @@
--- What `all` over a range and `fold` over a range or a slice come to. Assumes nothing.
+-- What is told of the numbers of a range, by `all`, and what `fold` over a range or a slice gathers. Assumes nothing.
 use Prim.Native.Nat.{ℕ, zero, suc, ◌+◌, ◌-◌, ◌≤◌, ◌<◌}
 use native.Mathlib.Omega.{arith}
 use native.Mathlib.Numerals.{add-one}
-use mathlib.Core.Path.{◌≡◌, refl, sym, ap, ap₂, subst, ◌∙◌}
-use mathlib.Core.Bool.{Bool, true, false, ◌&&◌, false≢true}
+use mathlib.Core.Path.{◌≡◌, refl, sym, ap, ap₂, ◌∙◌}
+use mathlib.Core.Bool.{Bool, true, false, ◌&&◌}
 use mathlib.Core.List.{List}
 use lib.Dec.{eqb, ltb}
 use lib.ListN.{length, get_or, take, drop, length-take, get_or-eq_default}
 use lib.Seq.{take-suc, get_or-take, get_or-drop}
 use borrow.Author.Tests.{lt-ltb, ltb-true, ltb-false}
-use Rattle.std.specs.Prelude.{Option, None, Some, IfSome, IsSomeAnd, IsTrue, MatchBool}
-use Rattle.std.specs.Option.{option_map}
+use Rattle.std.specs.Prelude.{Option}
 use Rattle.std.specs.Fn.{Called}
 use denote.Param.Members.{Mut}
 use Rattle.std.specs.Iterator.{AlwaysYields, Drains}
-use Rattle.std.specs.Iterator.Runs.{Run, SomeRun, ItemsCountUp, AllItemsGive, AnyItemGives}
 use Rattle.std.specs.List.{FoldsTo, range_with_len}
-use Rattle.std.specs.declared.ops.Range.{Range}
-use Rattle.std.specs.declared.ops.RangeInclusive.{RangeInclusive}
-use Rattle.std.specs.Range.{range_inclusive_start, range_inclusive_end, range_inclusive_exhausted}
-use Rattle.std.proofs.iter.Yields.{nat_range_steps}
-use Rattle.std.proofs.iter.runs.Sources.{nat_range_inclusive_steps, range_listed, inclusive_listed}
 use Rattle.std.proofs.lemmas.Fn.{fold_over}
 use Rattle.base.specs.Lists.{all}
 use Rattle.base.specs.Numbers.{up_to, numbers}
 use Rattle.base.proofs.Bools.{by_cases}
+use Rattle.base.proofs.Iterators.{Tells, tells_up_to}
 use Rattle.base.proofs.ListsLaws.{all-has, get-all}
-use Rattle.base.proofs.NumbersLaws.{up_to-range, up_to-numbers}
+use Rattle.base.proofs.NumbersLaws.{up_to-numbers}
 use Rattle.codec.specs.Bytes.{part}
-use Rattle.validity.proofs.AllsLaws.{all_true, all-fail, all-snoc, all_same}
-
--- a test t holds of each number from a up to b, or fails at one
-abbrev pub Tells : (ℕ → Bool) → ℕ → ℕ → Bool → Type 0
-Tells t a b r = MatchBool r ((k : ℕ) → a ≤ k → k < b → t k ≡ true) ((k : ℕ) × (a ≤ k) × (k < b) × (t k ≡ false))
-
-abbrev back : Option ℕ → ℕ
-back None = 0
-back (Some x) = x
-
-abbrev given : Option ℕ → Bool
-given None = false
-given (Some x) = true
-
-item : (o : Option ℕ) (x : ℕ) (P : ℕ → Type 0) → option_map (λ y. y) o ≡ Some x → IfSome o P → P x
-item None x P e h = absurd (false≢true (ap given e))
-item (Some y) x P e h = subst P (ap back e) h
-
-both : (o : Option ℕ) (P Q : ℕ → Type 0) → IsSomeAnd o P → IfSome o Q → (x : ℕ) × P x × Q x
-both None P Q h k = absurd h
-both (Some x) P Q h k = (x, h, k)
-
--- a closure that answers t
-module _ {F : Type 0} {g : Mut F (ℕ × Unit {0}) Bool} {f : F} (t : ℕ → Bool) (says : (x : ℕ) (v : Bool) (h : F) → Called g f (x, tt) v h → (h ≡ f) × (v ≡ t x)) where
-  run : {S : Type 0} {steps : S → Option ℕ → S → Type 0} (a b : ℕ) (r : Bool) (q : Run steps)
-      → ItemsCountUp q a b → MatchBool r (IsTrue q.whole × AllItemsGive q g f true) (AnyItemGives q g f false) → Tells t a b r
-  run a b true q up w = λ k lo hi.
-      let n : k - a < q.len = omega (arith, up.1 w.0) in
-      let e : a + (k - a) ≡ k = omega arith in
-      let P : ℕ → Type 0 = λ x. Called g f (x, tt) true f in
-      let c = item (q.at (k - a)) (a + (k - a)) P (up.3 (k - a) n) (w.1 (λ x v h c. (says x.0 v h c).0) (k - a)) in
-      sym ((says (a + (k - a)) true f c).1 ∙ ap t e)
-  run a b false q up w =
-      let i = w (λ x v h c. (says x.0 v h c).0) in
-      let x = both (q.at i.0) (λ x. Called g f (x, tt) false f) (λ x. (x ≡ a + i.0) × (x < b)) i.2 (up.2 i.0) in
-      (x.0, omega (arith, x.2.0), x.2.1, sym ((says x.0 false f x.1).1))
-
-  moved : (r : Bool) {a b m n : ℕ} → a ≡ m → b ≡ n → Tells t a b r → Tells t m n r
-  moved r {a} {b} {m} {n} e h w = subst (λ z. Tells t m z r) h (subst (λ z. Tells t z b r) e w)
-
-  -- `(a..b).all(f)`
-  pub all-range : (a b : ℕ) (s : Range ℕ) (r : Bool) → s.start ≡ a → s.end ≡ b
-      → SomeRun nat_range_steps s (λ q. MatchBool r (IsTrue q.whole × AllItemsGive q g f true) (AnyItemGives q g f false)) → Tells t a b r
-  all-range a b s r ea eb w =
-      let q = w.0 in
-      let l = range_listed q q.seen in
-      moved r (l.2 ∙ ap (λ z. z.start) w.1 ∙ ea) (l.3 ∙ ap (λ z. z.end) w.1 ∙ eb) (run l.0 l.1 r q l.4 w.2)
-
-  -- `(a..=b).all(f)`
-  pub all-inclusive : (a b : ℕ) (s : RangeInclusive ℕ) (r : Bool) → range_inclusive_start s ≡ a → range_inclusive_end s ≡ b → range_inclusive_exhausted s ≡ false
-      → SomeRun nat_range_inclusive_steps s (λ q. MatchBool r (IsTrue q.whole × AllItemsGive q g f true) (AnyItemGives q g f false)) → Tells t a (b + 1) r
-  all-inclusive a b s r ea eb x w =
-      let q = w.0 in
-      let l = inclusive_listed q q.seen in
-      moved r (l.2 ∙ ap range_inclusive_start w.1 ∙ ea) (l.3 ∙ ap (λ z. range_inclusive_end z + 1) w.1 ∙ ap (λ z. z + 1) eb)
-      (run l.0 l.1 r q (l.4 (ap range_inclusive_exhausted w.1 ∙ x)).0 w.2)
-
--- the numbers 1 to n
-pub tells_up_to : (t : ℕ → Bool) (n : ℕ) (r : Bool) → Tells t 1 (n + 1) r → r ≡ all t (up_to n)
-tells_up_to t n true h = sym (all_true t (up_to n) (λ x k. let i = up_to-range n x k in h x i.0 (omega (arith, i.1))))
-tells_up_to t n false h =
-    let e : h.0 - 1 + 1 ≡ h.0 = omega (arith, h.1) in
-    sym (all-fail t n (h.0 - 1) (omega (arith, h.1, h.2)) (ap t e ∙ h.3))
-
--- `(1..=n).all(f)`
-pub all-to : {F : Type 0} {g : Mut F (ℕ × Unit {0}) Bool} {f : F} (t : ℕ → Bool) (n : ℕ) (s : RangeInclusive ℕ) (r : Bool)
-    → range_inclusive_start s ≡ 1 → range_inclusive_end s ≡ n → range_inclusive_exhausted s ≡ false
-    → SomeRun nat_range_inclusive_steps s (λ q. MatchBool r (IsTrue q.whole × AllItemsGive q g f true) (AnyItemGives q g f false))
-    → ((x : ℕ) (v : Bool) (h : F) → Called g f (x, tt) v h → (h ≡ f) × (v ≡ t x)) → r ≡ all t (up_to n)
-all-to t n s r a b x w says = tells_up_to t n r (all-inclusive t says 1 n s r a b x w)
+use Rattle.validity.proofs.AllsLaws.{all-snoc, all_same}
 
 -- what is left of a list when i of n are passed: all of it holds if each does, and fails if one does
 module _ (t rest : ℕ → Bool) (n : ℕ) (next : (i : ℕ) → i < n → t i ≡ true → rest i ≡ rest (i + 1)) (fails : (i : ℕ) → i < n → t i ≡ false → rest i ≡ false) (done : rest n ≡ true) where

@@ -13,6 +13,7 @@ use Rattle.base.specs.Lists.{has, all}
 use Rattle.base.specs.Numbers.{up_to}
 use Rattle.base.proofs.Bools.{by_cases}
 use Rattle.base.proofs.NumbersLaws.{up_to-range, has-up_to}
+use Rattle.base.proofs.ListsLaws.{has_all}
 use Rattle.quorum.specs.Sets.{members}
 use Rattle.quorum.proofs.SetLaws.{members-range}
 use Rattle.model.specs.Hall.{Entries, max_entries, Queued, max_buffer, max_order, max_recorders}
@@ -38,7 +39,7 @@ use Rattle.ranges.specs.TableParts.{view_numbers, view_at, Found}
 use Rattle.validity.specs.Marks.{message_marked, flag_at, endpoint_off, sent_at, set_ok, source_ok, heard_ok}
 use Rattle.validity.specs.RawHall.{raw, size_at, view_count, entry_count, set_at}
 use Rattle.validity.specs.CrossParts.{named, Labels, queued_ok, summary_ok, apart, view_cross}
-use Rattle.validity.proofs.AllsLaws.{all_same, all_true}
+use Rattle.validity.proofs.AllsLaws.{all_same}
 use Rattle.validity.proofs.MarksLaws.{flags-at}
 use Rattle.validity.proofs.Values.{view_number-value, summary-value, recorder-value, message_of, message-value, queued-value}
 use Rattle.validity.proofs.RawHallLaws.{set-in, set_out, no-members, long, size_in, raw-size, raw-created, raw-count, raw-entry, view-members, found-members}
@@ -211,7 +212,7 @@ module _ (b : List ℕ) (K : Held hall_fields b) (l : List ℕ) (M : Labels (raw
 
       none-names : summary_names (raw b).entries blank_summary ≡ true
       unfolding summary_names set_names list_names blank_summary all
-      none-names = ap (λ (t : Bool). t && true) (all_true _ (up_to max_entries) (λ e h. refl))
+      none-names = ap (λ (t : Bool). t && true) (has_all _ (up_to max_entries) (λ e h. refl))
 
       summary-names : summary_names (raw b).entries ((raw b).summaries.summary p (view_at b i)) ≡ summary_ok l b (endpoint_off p i)
       unfolding summary_ok summary_names

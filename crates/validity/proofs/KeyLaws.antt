@@ -12,6 +12,7 @@ use Rattle.base.specs.Lists.{all}
 use Rattle.base.specs.Numbers.{up_to}
 use Rattle.base.proofs.Bools.{by_cases, and_both, and-true}
 use Rattle.base.proofs.NumbersLaws.{up_to-range, has-up_to}
+use Rattle.base.proofs.ListsLaws.{all-has, has_all}
 use Rattle.model.specs.Ordering.{is_labelled}
 use Rattle.model.specs.Hall.{Entries}
 use Rattle.codec.specs.Bytes.{part}
@@ -22,7 +23,6 @@ use Rattle.store.specs.HallForm.{hall_fields}
 use Rattle.validity.specs.Marks.{byte_values}
 use Rattle.validity.specs.RawHall.{raw, entry_count}
 use Rattle.validity.specs.CrossParts.{apart, key_of, label_key, Keys, key_alone}
-use Rattle.validity.proofs.AllsLaws.{all-at, all_true}
 use Rattle.validity.proofs.RawHallLaws.{count-in}
 use Rattle.validity.proofs.CrossPartsLaws.{sender-at, view-at, seq-at}
 
@@ -217,17 +217,17 @@ module _ (b : List ℕ) (K : Held hall_fields b) (m : ℕ) (c : m ≡ entry_coun
     where
       alone : all (λ d. all (apart es d) (up_to m)) (up_to m) ≡ true → (d : ℕ) → (1 ≤ d) × (d ≤ m) → key_alone ks (d - 1) ≡ true
       alone a d r =
-          all_true (before d) (up_to (d - 1))
+          has_all (before d) (up_to (d - 1))
           (λ x h. let g = up_to-range (d - 1) x h in tested x d g.0 (omega arith) r.1
-          ∙ all-at (apart es x) (up_to m) d (all-at (λ y. all (apart es y) (up_to m)) (up_to m) x a (has-up_to m x g.0 (omega arith))) (has-up_to m d r.0 r.1))
+          ∙ all-has (apart es x) (up_to m) d (all-has (λ y. all (apart es y) (up_to m)) (up_to m) x a (has-up_to m x g.0 (omega arith))) (has-up_to m d r.0 r.1))
 
       forth : all (λ d. all (apart es d) (up_to m)) (up_to m) ≡ true → all (λ d. key_alone ks (d - 1)) (up_to m) ≡ true
-      forth a = all_true (λ d. key_alone ks (d - 1)) (up_to m) (λ d h. alone a d (up_to-range m d h))
+      forth a = has_all (λ d. key_alone ks (d - 1)) (up_to m) (λ d h. alone a d (up_to-range m d h))
 
       earlier : all (λ d. key_alone ks (d - 1)) (up_to m) ≡ true → (x y : ℕ) → 1 ≤ x → x < y → y ≤ m → apart es x y ≡ true
       earlier a x y lo lt hi =
           sym (tested x y lo lt hi)
-          ∙ all-at (before y) (up_to (y - 1)) x (all-at (λ d. key_alone ks (d - 1)) (up_to m) y a (has-up_to m y (omega arith) hi)) (has-up_to (y - 1) x lo (omega arith))
+          ∙ all-has (before y) (up_to (y - 1)) x (all-has (λ d. key_alone ks (d - 1)) (up_to m) y a (has-up_to m y (omega arith) hi)) (has-up_to (y - 1) x lo (omega arith))
 
       each : all (λ d. key_alone ks (d - 1)) (up_to m) ≡ true → (d e : ℕ) → (1 ≤ d) × (d ≤ m) → (1 ≤ e) × (e ≤ m) → apart es d e ≡ true
       each a d e r s =
@@ -241,5 +241,5 @@ module _ (b : List ℕ) (K : Held hall_fields b) (m : ℕ) (c : m ≡ entry_coun
 
       back : all (λ d. key_alone ks (d - 1)) (up_to m) ≡ true → all (λ d. all (apart es d) (up_to m)) (up_to m) ≡ true
       back a =
-          all_true (λ d. all (apart es d) (up_to m)) (up_to m)
-          (λ d h. all_true (apart es d) (up_to m) (λ e k. each a d e (up_to-range m d h) (up_to-range m e k)))
+          has_all (λ d. all (apart es d) (up_to m)) (up_to m)
+          (λ d h. has_all (apart es d) (up_to m) (λ e k. each a d e (up_to-range m d h) (up_to-range m e k)))

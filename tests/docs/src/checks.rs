@@ -57,10 +57,13 @@ const HOMES: [&str; 8] = [
     "tests/",
 ];
 
-/// The pages that are read: all but the two that speak of the past.
+/// The pages that speak of the past.
+const PAST: [&str; 3] = ["docs/changes.md", "docs/PORT.md", "docs/DESIGN-PASS.md"];
+
+/// The pages that are read: all but those that speak of the past.
 fn is_page(path: &str) -> bool {
     let in_docs = path.starts_with("docs/") && path.ends_with(".md");
-    path == "README.md" || in_docs && path != "docs/changes.md" && path != "docs/PORT.md"
+    path == "README.md" || in_docs && !PAST.contains(&path)
 }
 
 impl Seen {

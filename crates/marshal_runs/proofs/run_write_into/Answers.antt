@@ -2,6 +2,7 @@
 use native.Mathlib.Omega.{arith}
 use mathlib.Core.Path.{sym, ap, ◌∙◌}
 use Rattle.model.specs.RunFile.{WriteAnswer, write_file}
+use Rattle.model.proofs.RefusalNumbersLaws.{has-number}
 use Rattle.runfile.specs.Answers.{file_opening, run_of, written_meaning}
 use Rattle.calls.specs.Lent.{with_answer}
 use Rattle.calls.specs.RunsLent.{written_words, run_write_lent}
@@ -27,9 +28,11 @@ returns-in-Err c =
     let x = run_of (file_opening a.o) a.actions.now in
     let o = write_file x a.file.now in
     let w = written_is c.write.ensures.0 c.in-Err.is in
-    let r = refused-write x a.file.now c.in-Err.number w in
-    let l = lent-refused (written_words o.answer) a.file.now o.bytes a.out.now c.in-Err.number (sym (ap (λ (z : WriteAnswer). (written_words z).number) w)) r.0 in
-    record { number = l.number; bytes = c.write.ensures.1 ∙ r.1 ∙ l.bytes; answer = l.answer }
+    let l =
+    lent-refused (written_words o.answer) a.file.now o.bytes a.out.now c.from.result
+    (c.from.ensures ∙ sym (ap (λ (z : WriteAnswer). (written_words z).number) w))
+    (λ z. has-number c.in-Err.why (sym c.from.ensures ∙ z)) in
+    record { number = l.number; bytes = c.write.ensures.1 ∙ refused-write x a.file.now _ w ∙ l.bytes; answer = l.answer }
 
 pub returns-in-Ok : goal.returns-in-Ok
 unfolding run_write_lent written_meaning written_words

@@ -1,44 +1,52 @@
 -- The invariant: the calls at the members passed so far give nothing. Assumes nothing.
 use borrow.Author.Rules.{rules}
-use mathlib.Core.Path.{sym, ap, ◌∙◌}
-use mathlib.Core.List.{map}
-use Rattle.quorum.specs.Sets.{members}
-use Rattle.model.specs.Call.{hl3}
-use Rattle.model.specs.Settle.{settle_call}
+use native.Mathlib.Omega.{arith}
+use mathlib.Core.Path.{◌≡◌, sym, ap, ◌∙◌}
+use Prim.Native.Nat.{◌+◌, ◌-◌, ◌≤◌}
+use Rattle.model.specs.KindNumbers.{kind_number}
+use Rattle.model.specs.RefusalNumbers.{number}
 use Rattle.store.specs.StoredForm.{hall_of}
-use Rattle.progress.specs.AnyTurn.{any_turn}
 use Rattle.settling.specs.Turns.{found}
-use Rattle.settling.proofs.TurnSteps.{above-none, above-next, above-ends, above-all}
+use Rattle.settling.proofs.TurnSteps.{turn_over, over-members, over-taken, over-full, over-passed, over-none}
 use Rattle.settling.proofs.find_call.Goals as goal
 
 pub loop-r-init : goal.loop-r-init
-loop-r-init c = let a = c.args in (search rules, above-none (hall_of a.b.now) a.v a.k c.size-n.result)
-
-pub try_call-why-requires : goal.try_call-why-requires
-try_call-why-requires c = (c.requires, search rules, search rules)
-
-pub returns-then-is_end : goal.returns-then-is_end
-returns-then-is_end c =
+loop-r-init c =
     let a = c.args in
-    let l = c.loop-r in
     let h = hall_of a.b.now in
-    c.turn_at.ensures.turn a.v.number
-    ∙ sym (above-ends h a.v a.k c.size-n.result l.r c.loop-r-test.true c.try_call-why.result c.try_call-why.ensures (sym c.is_end.ensures ∙ c.if-is_end.true))
-    ∙ sym l.invariant.1
-    ∙ ap (λ n. any_turn hl3 h (map (settle_call a.v.number a.k) (members n a.v.set))) c.size-n.ensures.value
+    let size : h.size ≡ c.size-r-end.result + 1 - 1 = omega (arith, c.size-r-end.ensures.value) in
+    over-members h a.v (kind_number a.k) h.size ∙ ap (turn_over h a.v (kind_number a.k) 1) size
+
+pub returns-in_default : goal.returns-in_default
+unfolding found
+returns-in_default c =
+    let a = c.args in
+    over-taken (hall_of a.b.now) a.v (kind_number a.k) _ c.loop-r.r (search rules) c.in_default.ensures ∙ sym c.loop-r.invariant
+
+pub returns-in-Full : goal.returns-in-Full
+unfolding found
+returns-in-Full c =
+    let a = c.args in
+    over-full (hall_of a.b.now) a.v (kind_number a.k) _ c.loop-r.r (search rules) (sym (ap number c.in-Full.is) ∙ c.in-Err.ensures)
+    ∙ sym c.loop-r.invariant
 
 pub loop-r-preserved : goal.loop-r-preserved
 loop-r-preserved c =
     let a = c.args in
-    let l = c.loop-r in
-    (search rules, l.invariant.1 ∙ above-next (hall_of a.b.now) a.v a.k c.size-n.result l.r c.loop-r-test.true c.try_call-why.result c.try_call-why.ensures (sym c.is_end.ensures ∙ c.if-is_end.false))
+    c.loop-r.invariant
+    ∙ over-passed (hall_of a.b.now) a.v (kind_number a.k) _ c.loop-r.r (search rules) c.in-Err.why c.in-Err.ensures c.in_default-why.not-Full
 
 pub returns : goal.returns
 unfolding found
 returns c =
     let a = c.args in
-    let l = c.loop-r in
-    let h = hall_of a.b.now in
-    above-all h a.v a.k c.size-n.result l.r (search rules)
-    ∙ sym l.invariant.1
-    ∙ ap (λ n. any_turn hl3 h (map (settle_call a.v.number a.k) (members n a.v.set))) c.size-n.ensures.value
+    over-none (hall_of a.b.now) a.v (kind_number a.k) _ c.loop-r.r (search rules) ∙ sym c.loop-r.invariant
+
+pub returns-in_default-why : goal.returns-in_default-why
+unfolding found
+returns-in_default-why c =
+    let a = c.args in
+    let last : c.size-r-end.result + 1 ≤ c.loop-r.r + 1 = search rules in
+    over-none (hall_of a.b.now) a.v (kind_number a.k) _ (c.loop-r.r + 1) last
+    ∙ sym (c.loop-r.invariant
+    ∙ over-passed (hall_of a.b.now) a.v (kind_number a.k) _ c.loop-r.r (search rules) c.in-Err.why c.in-Err.ensures c.in_default-why.not-Full)

@@ -1,40 +1,34 @@
 -- The invariant: the kinds passed so far give nothing. Assumes nothing.
 use borrow.Author.Rules.{rules}
-use native.Mathlib.Omega.{arith}
 use mathlib.Core.Path.{◌≡◌, sym, ap, ◌∙◌}
 use Rattle.quorum.specs.Sets.{members}
-use Rattle.model.specs.Settle.{settle_kinds}
 use Rattle.store.specs.StoredForm.{hall_of}
 use Rattle.settling.specs.Turns.{found}
 use Rattle.settling.proofs.TurnSteps.{turn_from, from_first, from_last, from_found, from_next}
 use Rattle.settling.proofs.find_turn.Goals as goal
 
-pub loop-i-init : goal.loop-i-init
-loop-i-init c = let a = c.args in (search rules, from_first (hall_of a.b.now) a.v.number (members (hall_of a.b.now).size a.v.set))
+pub loop-k-init : goal.loop-k-init
+loop-k-init c = from_first (hall_of c.args.b.now) c.args.v.number (members (hall_of c.args.b.now).size c.args.v.set)
 
-pub returns-then-is_found : goal.returns-then-is_found
-unfolding settle_kinds
-returns-then-is_found c =
+pub returns-in_default : goal.returns-in_default
+returns-in_default c =
     let a = c.args in
-    let l = c.loop-i in
     let h = hall_of a.b.now in
-    from_found h a.v.number (members h.size a.v.set) l.i c.loop-i-test.true c.find_call-t.result c.find_call-t.ensures (sym c.is_found.ensures ∙ c.if-is_found.true)
-    ∙ sym l.invariant.1
+    from_found h a.v.number (members h.size a.v.set) c.loop-k.k-index c.loop-k-test.true c.find_call.result c.find_call.ensures c.in_default.not-Nothing
+    ∙ sym c.loop-k.invariant
 
-pub loop-i-preserved : goal.loop-i-preserved
-unfolding settle_kinds
-loop-i-preserved c =
+pub loop-k-preserved : goal.loop-k-preserved
+loop-k-preserved c =
     let a = c.args in
-    let l = c.loop-i in
     let h = hall_of a.b.now in
-    (search rules, l.invariant.1 ∙ from_next h a.v.number (members h.size a.v.set) l.i c.loop-i-test.true c.find_call-t.result c.find_call-t.ensures (sym c.is_found.ensures ∙ c.if-is_found.false))
+    c.loop-k.invariant
+    ∙ from_next h a.v.number (members h.size a.v.set) c.loop-k.k-index c.loop-k-test.true c.find_call.result c.find_call.ensures c.in-Nothing.is
 
 pub returns : goal.returns
 unfolding found
 returns c =
     let a = c.args in
-    let l = c.loop-i in
     let h = hall_of a.b.now in
     let ms = members h.size a.v.set in
-    let all : 9 ≡ l.i = omega (arith, l.invariant.0, c.loop-i-test.false) in
-    from_last h a.v.number ms ∙ ap (turn_from h a.v.number ms) all ∙ sym l.invariant.1
+    let all : 9 ≡ c.loop-k.k-index = search rules in
+    from_last h a.v.number ms ∙ ap (turn_from h a.v.number ms) all ∙ sym c.loop-k.invariant

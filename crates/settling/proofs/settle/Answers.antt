@@ -1,42 +1,27 @@
 -- 31, or a settle on a copy; that of one that is taken is written back. Assumes nothing.
 use borrow.Author.Rules.{rules}
 use native.Mathlib.Omega.{arith}
-use mathlib.Core.Path.{refl}
 use Rattle.store.proofs.StoredFormLaws.{is_stored-long}
 use Rattle.settling.proofs.CopyLaws.{checked, settle-broken, settle-taken, settle-refused}
 use Rattle.settling.proofs.settle.Goals as goal
 
-pub shape_of-bytes-then-why-ne0 : goal.shape_of-bytes-then-why-ne0
-shape_of-bytes-then-why-ne0 c = refl
+pub returns-in_err-bytes_refusal : goal.returns-in_err-bytes_refusal
+returns-in_err-bytes_refusal c = settle-broken c.from_residual.result _ c.from_residual.ensures.1 c.args.bytes.now c.in_err-bytes_refusal.ensures
 
-pub returns-then-why-ne0 : goal.returns-then-why-ne0
-returns-then-why-ne0 c = settle-broken c.args.bytes.now c.bytes_refusal-why.result c.bytes_refusal-why.ensures c.if-why-ne0.true _ refl
+pub settle_hall-requires : goal.settle_hall-requires
+settle_hall-requires c = (checked c.args.bytes.now c.in_ok-bytes_refusal.ensures, search rules)
 
-pub settle_hall-x-requires : goal.settle_hall-x-requires
-settle_hall-x-requires c =
-    let n = c.bytes_refusal-why in
-    (checked c.args.bytes.now n.result n.ensures c.if-why-ne0.false, search rules)
+pub returns-in_err-count : goal.returns-in_err-count
+returns-in_err-count c =
+    let r = c.from_residual-in_err-count in
+    settle-refused r.result _ r.ensures.1 c.args.bytes.now _ c.in_err-count.ensures
 
 pub put_bytes-requires : goal.put_bytes-requires
 put_bytes-requires c =
     let b = c.args.bytes.now in
-    let n = c.bytes_refusal-why in
-    (omega (arith, c.settle_hall-x.auto.work), is_stored-long b (checked b n.result n.ensures c.if-why-ne0.false))
+    (omega (arith, c.settle_hall.auto.work), is_stored-long b (checked b c.in_ok-bytes_refusal.ensures))
 
-pub shape_of-bytes-in-Count : goal.shape_of-bytes-in-Count
-shape_of-bytes-in-Count c = c.put_bytes.auto.b
-
-pub returns-in-Count : goal.returns-in-Count
-returns-in-Count c =
+pub returns : goal.returns
+returns c =
     let b = c.args.bytes.now in
-    let n = c.bytes_refusal-why in
-    let x = c.settle_hall-x in
-    settle-taken b (checked b n.result n.ensures c.if-why-ne0.false) _ x.result c.in-Count.is _ x.ensures x.auto.work _ c.put_bytes.ensures
-
-pub shape_of-bytes-in-Refused : goal.shape_of-bytes-in-Refused
-shape_of-bytes-in-Refused c = refl
-
-pub returns-in-Refused : goal.returns-in-Refused
-returns-in-Refused c =
-    let x = c.settle_hall-x in
-    settle-refused c.args.bytes.now _ x.result c.in-Refused.is _ x.ensures
+    settle-taken b (checked b c.in_ok-bytes_refusal.ensures) _ _ c.in_ok-count.ensures c.settle_hall.auto.work _ c.put_bytes.ensures

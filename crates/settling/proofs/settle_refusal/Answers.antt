@@ -1,17 +1,13 @@
 -- 31, or the number of the settle on a copy. Assumes nothing.
 use borrow.Author.Rules.{rules}
-use mathlib.Core.Path.{ap, ◌∙◌}
-use Rattle.model.specs.Answers.{Plain}
+use mathlib.Core.Path.{◌∙◌}
+use Rattle.model.proofs.RefusalNumbersLaws.{exit}
 use Rattle.settling.proofs.CopyLaws.{checked, broken-number}
 use Rattle.settling.proofs.settle_refusal.Goals as goal
 
-pub returns-then-why-ne0 : goal.returns-then-why-ne0
-returns-then-why-ne0 c = broken-number c.args.bytes.now c.bytes_refusal-why.result c.bytes_refusal-why.ensures c.if-why-ne0.true
+pub returns-in_err-bytes_refusal : goal.returns-in_err-bytes_refusal
+returns-in_err-bytes_refusal c =
+    exit c.from_residual.result _ c.from_residual.ensures.1 ∙ broken-number c.args.bytes.now _ c.in_err-bytes_refusal.ensures
 
 pub settle_hall-requires : goal.settle_hall-requires
-settle_hall-requires c =
-    let n = c.bytes_refusal-why in
-    (checked c.args.bytes.now n.result n.ensures c.if-why-ne0.false, search rules)
-
-pub returns : goal.returns
-returns c = c.plain_settled.ensures.number ∙ ap (λ (p : Plain). p.number) c.settle_hall.ensures.answer
+settle_hall-requires c = (checked c.args.bytes.now c.in_ok-bytes_refusal.ensures, search rules)

@@ -1,8 +1,9 @@
 -- Each entry in turn. Assumes nothing.
 use borrow.Author.Rules.{rules}
 use mathlib.Core.Path.{refl, sym, ◌∙◌}
+use Rattle.base.proofs.Iterators.{all-range}
 use Rattle.validity.specs.CrossParts.{key_alone}
-use Rattle.validity.proofs.ChainLaws.{all-range, tells_below}
+use Rattle.validity.proofs.ChainLaws.{tells_below}
 use Rattle.validity.proofs.KeyLaws.{keys-alone}
 use Rattle.validity.proofs.labels_alone.Goals as goal
 

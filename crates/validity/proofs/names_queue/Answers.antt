@@ -5,10 +5,11 @@ use native.Mathlib.Omega.{arith}
 use mathlib.Core.Path.{refl, sym, ◌∙◌}
 use mathlib.Core.Bool.{Bool}
 use lib.ListN.{get_or}
+use Rattle.base.proofs.Iterators.{all-range}
 use Rattle.store.specs.Layout.{queue_size, queues_at}
 use Rattle.validity.specs.CrossParts.{queued_ok}
 use Rattle.validity.proofs.RawCells.{queue-count}
-use Rattle.validity.proofs.ChainLaws.{all-range, tells_rest}
+use Rattle.validity.proofs.ChainLaws.{tells_rest}
 use Rattle.validity.proofs.CrossPartsLaws.{queue_from, queue-all, queue-fail, queue-next, queue-done}
 use Rattle.validity.proofs.names_queue.Goals as goal
 

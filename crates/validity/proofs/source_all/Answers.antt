@@ -1,12 +1,12 @@
 -- Each source in turn. Assumes nothing.
 use borrow.Author.Rules.{rules}
+use Rattle.base.proofs.Iterators.{all-to}
 use Rattle.model.specs.Hall.{max_recorders}
 use Rattle.validity.specs.Marks.{source_ok}
-use Rattle.validity.proofs.ChainLaws.{all-to}
 use Rattle.validity.proofs.source_all.Goals as goal
 
 pub returns : goal.returns
 returns c =
     let a = c.args in
     let n = c.new.ensures in
-    all-to (source_ok a.b.now a.at a.set) max_recorders _ _ n.start n.end n.exhausted c.all.ensures.runs (λ x v h k. search rules)
+    all-to (source_ok a.b.now a.at a.set) (λ x v h k. search rules) max_recorders _ _ n.start n.end n.exhausted c.all.ensures.runs

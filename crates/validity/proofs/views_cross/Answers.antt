@@ -3,11 +3,12 @@ use borrow.Author.Rules.{rules}
 use native.Mathlib.Omega.{arith}
 use mathlib.Core.Path.{refl, sym, ap, ◌∙◌}
 use Rattle.base.specs.Lists.{all}
+use Rattle.base.proofs.Iterators.{all-range}
 use Rattle.ranges.specs.TableParts.{view_at}
 use Rattle.validity.specs.RawHall.{raw}
 use Rattle.validity.specs.CrossParts.{view_cross}
 use Rattle.validity.proofs.AllsLaws.{views_from, views-all, views-fail, views-next, views-none}
-use Rattle.validity.proofs.ChainLaws.{all-range, tells_rest}
+use Rattle.validity.proofs.ChainLaws.{tells_rest}
 use Rattle.validity.proofs.views_cross.Goals as goal
 
 pub returns : goal.returns
