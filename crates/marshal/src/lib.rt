@@ -15,7 +15,7 @@ ghost use Rattle.stepback.specs.Lent.{step_held_lent, settle_held_lent, LeavesHe
 
 use answer::{plain, plain_page, plain_settled};
 use lent::{ANSWER, answer_into, put_values};
-use model::refusals::Refusal;
+use model::refusals::{Refusal, number_of};
 use page::page;
 use settling::{settle, settle_refusal};
 use step::{refusal, step};
@@ -38,10 +38,8 @@ pub fn page_into(hall: &[u8], r: u32, k: u32, out: &mut [u8]) -> u32
 fn or_no_room<T: Drop>(x: Result<T, Refusal>) -> u32
     ensures { result ≡ refused_by x ⨾ 18 }
 {
-    match x {
-        Ok(_) => u32::from(Refusal::Short),
-        Err(why) => u32::from(why),
-    }
+    let no_room: Result<(), Refusal> = Err(Refusal::Short);
+    number_of(x.and(no_room))
 }
 
 // The number of a step whose answer has no room: nothing is performed.
