@@ -16,7 +16,7 @@ fn run(hall: &mut [u8], actions: &[u32])
     ensures { hall.new ≡ run_on hall.old (actions_of actions.now) }
 {
     for w in actions.chunks_exact(4) {
-        step_hall(hall, w[0], w[1], w[2], w[3]);
+        let _ = step_hall(hall, w[0], w[1], w[2], w[3]);
     }
 }
 
@@ -26,9 +26,8 @@ pub extern "C" fn hall_steps(hall: &mut [u8], actions: &[u32]) -> u32
     ensures number { result ≡ bytes_number hall.old }
     ensures bytes { hall.new ≡ run_on hall.old (actions_of actions.now) }
 {
-    let why = bytes_refusal(hall);
-    if why != 0 {
-        return why;
+    if let Err(why) = bytes_refusal(hall) {
+        return u32::from(why);
     }
     run(hall, actions);
     0

@@ -8,15 +8,15 @@ ghost use Rattle.model.specs.Call.{words_of};
 ghost use Rattle.calls.specs.Lent.{Leaves, taken, lent_call};
 ghost use Rattle.runfile.specs.Answers.{file_opening};
 ghost use Rattle.story.specs.Lent.{print_lent, action_lent, opening_lent, line_words, parse_lent};
-ghost use Rattle.printing.specs.Lines.{Prints};
+ghost use Rattle.printing.specs.Lines.{Holds};
 ghost use Rattle.parsing.specs.Reading.{line_meaning};
 ghost use Rattle.replaying.specs.Lent.{list_lent, LeavesList};
 
 use codec::put_bytes;
 use lent::{ANSWER, answer_into, high, low, put_values};
-use model::refusal_numbers;
+use model::refusals::Refusal;
 use parsing::{Line, parse_line};
-use printing::{Printed, print_action, print_opening};
+use printing::{PrintedLine, print_action, print_opening};
 use replaying::list_run;
 use runfile::FileOpening;
 
@@ -28,37 +28,29 @@ pub fn list_into(file: &[u8], hall: &mut [u8], text: &mut [u8], out: &mut [u8]) 
         result hall.new text.new out.new }
 {
     if out.len() < ANSWER {
-        return refusal_numbers::SHORT;
+        return u32::from(Refusal::Short);
     }
-    let listed = list_run(file, hall, text);
-    if listed.number != 0 {
-        return listed.number;
+    match list_run(file, hall, text) {
+        Ok(len) => {
+            let length = len as u32;
+            put_values(out, &[length]);
+            0
+        }
+        Err(why) => u32::from(why),
     }
-    let length = listed.len as u32;
-    put_values(out, &[length]);
-    0
 }
 
-// A printed line at the start of a lent slice, its length written into another; or the number of its refusal.
-fn put_line(x: Printed, text: &mut [u8], out: &mut [u8]) -> u32
+// A printed line at the start of a lent slice, its length written into another.
+fn put_line(x: PrintedLine, text: &mut [u8], out: &mut [u8]) -> u32
     requires { x.len ≤ length x.bytes }
-    ensures { (why : ℕ) (t : List ℕ) → Prints why t x
-        → Leaves (print_lent why t text.old out.old) result text.new out.new }
+    ensures { (t : List ℕ) → Holds t x
+        → Leaves (print_lent 0 t text.old out.old) result text.new out.new }
 {
-    let len = x.len;
-    if x.number != 0 {
-        return x.number;
+    if text.len() < x.len || out.len() < ANSWER {
+        return u32::from(Refusal::Short);
     }
-    if text.len() < len {
-        return refusal_numbers::SHORT;
-    }
-    let room = out.len();
-    if room < ANSWER {
-        return refusal_numbers::SHORT;
-    }
-    put_bytes(text, 0, &x.bytes, len);
-    let size = len as u32;
-    put_values(out, &[size]);
+    put_bytes(text, 0, &x.bytes, x.len);
+    put_values(out, &[x.len as u32]);
     0
 }
 
@@ -75,7 +67,10 @@ pub fn print_opening_into(o: FileOpening, text: &mut [u8], out: &mut [u8]) -> u3
     ensures { Leaves (opening_lent (file_opening o) text.old out.old)
         result text.new out.new }
 {
-    put_line(print_opening(o), text, out)
+    match print_opening(o) {
+        Ok(line) => put_line(line, text, out),
+        Err(why) => u32::from(why),
+    }
 }
 
 // Which case a line is: numbers, since C reads them (`hall_parse_line`; `story.Lent.line_words` holds them).
@@ -95,7 +90,7 @@ fn line_into(line: Line, next: usize, out: &mut [u8]) -> u32
     match line {
         Line::Blank => answer_into(out, &[BLANK, low(next), high(next)]),
         Line::Opening(o) => {
-            let v = o.words;
+            let [v1, v2, v3, v4, v5, v6, v7, v8] = o.words;
             let values = [
                 OPENING,
                 low(next),
@@ -103,14 +98,14 @@ fn line_into(line: Line, next: usize, out: &mut [u8]) -> u32
                 o.size,
                 o.founders,
                 o.third,
-                v.v1,
-                v.v2,
-                v.v3,
-                v.v4,
-                v.v5,
-                v.v6,
-                v.v7,
-                v.v8,
+                v1,
+                v2,
+                v3,
+                v4,
+                v5,
+                v6,
+                v7,
+                v8,
             ];
             answer_into(out, &values)
         }

@@ -1,9 +1,10 @@
 -- Laws of the parts of a line. Assumes nothing.
-use Prim.Native.Nat.{ℕ, suc, ◌+◌, ◌*◌, ◌^◌, ◌≤◌, ◌<◌}
+use Prim.Native.Nat.{ℕ, zero, suc, ◌+◌, ◌*◌, ◌^◌, ◌≤◌, ◌<◌}
+use native.Mathlib.Numerals.{add-one}
 use native.Mathlib.Omega.{arith}
 use mathlib.Core.Path.{◌≡◌, refl, sym, ap, subst, ◌∙◌}
 use mathlib.Core.List.{List, [], ◌∷◌, ◌++◌, append_assoc, append-nil, map}
-use lib.ListN.{length, take, drop, length-append, length-take}
+use lib.ListN.{length, take, drop, get_or, length-append, length-take}
 use lib.Seq.{sets-eq, take_at}
 use Rattle.base.specs.Lists.{Each}
 use Rattle.model.specs.Listing.{decimal, fields_after, line}
@@ -11,8 +12,8 @@ use Rattle.text.specs.Text.{Room, Wrote}
 use Rattle.text.specs.Fields.{number_text}
 use Rattle.text.proofs.TextLaws.{wrote-length}
 use Rattle.text.proofs.Decimal.{decimal-word}
-use Rattle.printing.specs.declared.Printed.{Printed}
-use Rattle.printing.specs.Lines.{spaced, four_fields, Prints}
+use Rattle.printing.specs.declared.PrintedLine.{PrintedLine}
+use Rattle.printing.specs.Lines.{spaced, Holds}
 
 -- ## Room for two texts, one after the other
 
@@ -44,11 +45,11 @@ wrote-begins {b} {xs} {n} w r =
     ap (take n) (w.bytes ∙ sets-eq xs b 0 r.fits) ∙ take_at xs (drop (0 + length xs) b) n (sym e)
 
 -- so it is the text printed
-pub prints : {b t a : List ℕ} {n : ℕ} → Wrote b 0 t a n → Room b 0 t → Prints 0 t (record { number = 0; bytes = a; len = n })
-prints w r = record { number = refl; len = omega (arith, w.next); text = wrote-begins w r }
+pub prints : {b t a : List ℕ} {n : ℕ} → Wrote b 0 t a n → Room b 0 t → Holds t (record { bytes = a; len = n })
+prints w r = record { len = omega (arith, w.next); text = wrote-begins w r }
 
 -- and it lies within the bytes
-pub printed-fits : {why : ℕ} {t : List ℕ} {x : Printed} → Prints why t x → x.len ≤ length x.bytes
+pub printed-fits : {t : List ℕ} {x : PrintedLine} → Holds t x → x.len ≤ length x.bytes
 printed-fits {x} p = omega (arith, p.len, ap length p.text, length-take x.len x.bytes)
 
 -- ## Fields after the first
@@ -75,12 +76,6 @@ pub spaced-one : (f : List ℕ) → spaced (f ∷ []) ≡ 32 ∷ f
 unfolding spaced
 spaced-one f = ap (λ (l : List ℕ). 32 ∷ l) (append-nil f)
 
--- four numbers
-pub four-parts : (w x y z : ℕ) → spaced (four_fields w x y z) ≡ number_text w ++ (number_text x ++ (number_text y ++ number_text z))
-unfolding spaced
-four-parts w x y z =
-    ap (λ (l : List ℕ). number_text w ++ (number_text x ++ (number_text y ++ (32 ∷ l)))) (append-nil (decimal z))
-
 -- ## Lengths
 
 pub length_none : length (spaced []) ≡ 0
@@ -99,8 +94,46 @@ length-closed f fs =
 pub number_short : (x : ℕ) → x < 2 ^ 32 → length (spaced (decimal x ∷ [])) ≤ 11
 number_short x h = omega (arith, length-spaced (decimal x) [], length_none, decimal-word x h)
 
+-- words of 32 bits
+pub each-word : (ws : List ℕ) → ((i : ℕ) → get_or ws i 0 < 2 ^ 32) → Each (λ (w : ℕ). w < 2 ^ 32) ws
+each-word [] h = tt
+each-word (w ∷ ws) h = (h 0, each-word ws (λ i. h (suc i)))
+
 -- numbers
 pub numbers-short : (ws : List ℕ) → Each (λ (w : ℕ). w < 2 ^ 32) ws → length (spaced (map decimal ws)) ≤ 11 * length ws
 numbers-short [] h = omega (arith, length_none)
 numbers-short (w ∷ ws) h =
     omega (arith, length-spaced (decimal w) (map decimal ws), decimal-word w h.0, numbers-short ws h.1)
+
+-- ## Numbers one after another
+
+pub numbers-none : (ws : List ℕ) → spaced (map decimal (take 0 ws)) ≡ []
+unfolding spaced
+numbers-none ws = refl
+
+-- one number more
+numbers-step : (ws : List ℕ) (i : ℕ) → i < length ws → spaced (map decimal (take (suc i) ws)) ≡ spaced (map decimal (take i ws)) ++ number_text (get_or ws i 0)
+unfolding spaced
+numbers-step [] i h = absurd (omega arith)
+numbers-step (w ∷ ws) zero h = spaced-one (decimal w)
+numbers-step (w ∷ ws) (suc i) h =
+    ap (λ (l : List ℕ). 32 ∷ (decimal w ++ l)) (numbers-step ws i (omega arith))
+    ∙ ap (λ (l : List ℕ). 32 ∷ l) (sym (append_assoc (decimal w) (spaced (map decimal (take i ws))) (number_text (get_or ws i 0))))
+
+pub numbers-next : (ws : List ℕ) (i : ℕ) → i < length ws → spaced (map decimal (take (i + 1) ws)) ≡ spaced (map decimal (take i ws)) ++ number_text (get_or ws i 0)
+numbers-next ws i h = ap (λ (j : ℕ). spaced (map decimal (take j ws))) (add-one i) ∙ numbers-step ws i h
+
+-- some of them are no longer than all
+numbers-within : (ws : List ℕ) (i : ℕ) → length (spaced (map decimal (take i ws))) ≤ length (spaced (map decimal ws))
+unfolding spaced
+numbers-within ws zero = omega arith
+numbers-within [] (suc i) = omega arith
+numbers-within (w ∷ ws) (suc i) =
+    omega (arith, length-spaced (decimal w) (map decimal (take i ws)), length-spaced (decimal w) (map decimal ws), numbers-within ws i)
+
+-- the next one has room
+pub number-room : {b a : List ℕ} {o n : ℕ} (ws : List ℕ) (i : ℕ) → i < length ws → Room b o (spaced (map decimal ws))
+    → Wrote b o (spaced (map decimal (take i ws))) a n → Room a n (number_text (get_or ws i 0))
+number-room ws i h r w =
+    let next = ap length (numbers-next ws i h) ∙ length-append (spaced (map decimal (take i ws))) (number_text (get_or ws i 0)) in
+    record { fits = omega (arith, r.fits, w.next, wrote-length w, next, numbers-within ws (i + 1)) }

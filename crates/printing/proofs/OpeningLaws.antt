@@ -5,7 +5,7 @@ use mathlib.Core.Path.{◌≡◌, ap, ◌∙◌}
 use mathlib.Core.Bool.{Bool, true, false}
 use mathlib.Core.List.{List, [], ◌∷◌, ◌++◌, append_assoc, map}
 use lib.Dec.{eqb}
-use lib.ListN.{length, length-append}
+use lib.ListN.{length, get_or, length-append}
 use borrow.Author.Tests.{eq-eqb, ne_eqb}
 use Rattle.base.specs.Lists.{Each}
 use Rattle.base.specs.Numbers.{within}
@@ -20,8 +20,8 @@ use Rattle.text.proofs.Decimal.{decimal-word}
 use Rattle.story.specs.Sets.{set_text}
 use Rattle.story.specs.Keywords.{founders-word, whole_word, votes-word}
 use Rattle.story.specs.Printing.{whole_mask, founders_fields, votes_fields, opening_text, tell_refusal}
-use Rattle.printing.specs.Lines.{spaced, four_fields, told_text}
-use Rattle.printing.proofs.FieldsLaws.{spaced-append, spaced-one, line-closed, length_none, length-spaced, numbers-short}
+use Rattle.printing.specs.Lines.{spaced}
+use Rattle.printing.proofs.FieldsLaws.{spaced-append, spaced-one, line-closed, length_none, length-spaced, each-word, numbers-short}
 use Rattle.printing.proofs.MembersLaws.{set-short}
 
 -- ## Founders
@@ -57,20 +57,9 @@ pub votes-none : (third : ℕ) (ws : List ℕ) → (third ≡ 1 → ⊥) → spa
 unfolding votes_fields has_votes spaced
 votes-none third ws ne = rw (ne_eqb third 1 ne, votes_fields)
 
-module _ (third v1 v2 v3 v4 v5 v6 v7 v8 : ℕ) where
-  abbrev eight : List ℕ
-  eight = v1 ∷ v2 ∷ v3 ∷ v4 ∷ v5 ∷ v6 ∷ v7 ∷ v8 ∷ []
-
-  pub votes-parts : third ≡ 1
-      → spaced (votes_fields third eight) ≡ (32 ∷ votes-word) ++ (spaced (four_fields v1 v2 v3 v4) ++ spaced (four_fields v5 v6 v7 v8))
-  unfolding votes_fields has_votes spaced
-  votes-parts e =
-      rw (eq-eqb third 1 e, votes_fields)
-      (spaced-append (votes-word ∷ four_fields v1 v2 v3 v4) (four_fields v5 v6 v7 v8) ∙ joined)
-    where
-      joined : spaced (votes-word ∷ four_fields v1 v2 v3 v4) ++ spaced (four_fields v5 v6 v7 v8)
-          ≡ (32 ∷ votes-word) ++ (spaced (four_fields v1 v2 v3 v4) ++ spaced (four_fields v5 v6 v7 v8))
-      joined = ap (λ (l : List ℕ). 32 ∷ l) (append_assoc votes-word (spaced (four_fields v1 v2 v3 v4)) (spaced (four_fields v5 v6 v7 v8)))
+pub votes-parts : (third : ℕ) (ws : List ℕ) → third ≡ 1 → spaced (votes_fields third ws) ≡ (32 ∷ votes-word) ++ spaced (map decimal ws)
+unfolding votes_fields has_votes spaced
+votes-parts third ws e = rw (eq-eqb third 1 e, votes_fields)
 
 votes-short : (third : ℕ) (ws : List ℕ) → Each (λ (w : ℕ). w < 2 ^ 32) ws → length (spaced (votes_fields third ws)) ≤ 6 + 11 * length ws
 unfolding votes_fields votes-word
@@ -105,7 +94,7 @@ module _ (o : FileOpening) where
           ∙ ap (λ (l : List ℕ). number_text o.size ++ (l ++ (10 ∷ []))) (spaced-append fs vs)
           ∙ ap (λ (l : List ℕ). number_text o.size ++ l) (append_assoc founders votes (10 ∷ []))
 
-  pub opening-short : o.size < 2 ^ 32 → Each (λ (w : ℕ). w < 2 ^ 32) o.words → length o.words ≡ 8 → length (opening_text o) ≤ 160
+  pub opening-short : o.size < 2 ^ 32 → ((i : ℕ) → get_or o.words i 0 < 2 ^ 32) → length o.words ≡ 8 → length (opening_text o) ≤ 160
   unfolding hall-word
   opening-short hn hw eight =
       omega (
@@ -117,7 +106,7 @@ module _ (o : FileOpening) where
         length-append votes (10 ∷ []),
         decimal-word o.size hn,
         founders-short o.size o.founders,
-        votes-short o.third o.words hw,
+        votes-short o.third o.words (each-word o.words hw),
       )
 
   -- ## What is refused
@@ -129,11 +118,3 @@ module _ (o : FileOpening) where
     where
       wrong : within 1 8 o.size ≡ false → wrong_opening o.size o.founders ≡ true
       wrong f = rw (f, wrong_opening)
-
-  pub told_text_lem : tell_refusal o ≡ 0 → told_text o ≡ opening_text o
-  unfolding told_text
-  told_text_lem e = rw (eq-eqb (tell_refusal o) 0 e, told_text)
-
-  pub untold-text : (tell_refusal o ≡ 0 → ⊥) → told_text o ≡ []
-  unfolding told_text
-  untold-text ne = rw (ne_eqb (tell_refusal o) 0 ne, told_text)

@@ -1,11 +1,14 @@
 -- The lines of the text form, their parts, and what is printed. Assumes nothing.
-use Rattle.std.specs.Prelude.{ℕ, ◌≡◌, true, false, List, [], ◌∷◌, ◌++◌, eqb, length, take}
+use Rattle.std.specs.Prelude.{ℕ, ◌≡◌, true, false, List, [], ◌∷◌, ◌++◌, length, take, Option, Some, None, Result, Ok, Err}
 use Rattle.model.specs.Call.{Words}
-use Rattle.model.specs.RunFile.{FileOpening}
-use Rattle.model.specs.Listing.{decimal, line}
+use Rattle.model.specs.Listing.{line}
+use Rattle.model.specs.RefusalNumbers.{number}
+use Rattle.model.specs.KindNumbers.{kind_number}
+use Rattle.model.specs.declared.kinds.Kind.{Kind}
+use Rattle.model.specs.declared.refusals.Refusal.{Refusal}
 use Rattle.story.specs.Keywords.{kind_word, raw_word}
-use Rattle.story.specs.Printing.{kind_fields, raw_fields, opening_text, tell_refusal}
-use Rattle.printing.specs.declared.Printed.{Printed}
+use Rattle.story.specs.Printing.{has_line, kind_fields, raw_fields}
+use Rattle.printing.specs.declared.PrintedLine.{PrintedLine}
 
 -- ## Parts of a line
 
@@ -13,10 +16,6 @@ use Rattle.printing.specs.declared.Printed.{Printed}
 unfoldable pub spaced : List (List ℕ) → List ℕ
 spaced [] = []
 spaced (f ∷ fs) = 32 ∷ (f ++ spaced fs)
-
--- four numbers
-abbrev pub four_fields : ℕ → ℕ → ℕ → ℕ → List (List ℕ)
-four_fields w x y z = decimal w ∷ decimal x ∷ decimal y ∷ decimal z ∷ []
 
 -- ## Lines
 
@@ -27,14 +26,19 @@ kind_text w = line (kind_word w.k) (kind_fields w)
 abbrev pub raw_text : Words → List ℕ
 raw_text w = line raw_word (raw_fields w)
 
--- an opening's line; nothing where it is refused
-unfoldable pub told_text : FileOpening → List ℕ
-told_text o = elim (eqb (tell_refusal o) 0) [ true ↦ opening_text o | false ↦ [] ]
+-- the kind of the action's line, if it has one
+abbrev pub TellsKind : Words → Option Kind → Type 0
+TellsKind w (Some κ) = (has_line w ≡ true) × (kind_number κ ≡ w.k)
+TellsKind w None = has_line w ≡ false
 
 -- ## What is printed
 
--- the number `why`, and the text t
-pub record Prints (why : ℕ) (t : List ℕ) (x : Printed) : Type 0 where
-  pub number : x.number ≡ why
+-- a line that is the text t
+pub record Holds (t : List ℕ) (x : PrintedLine) : Type 0 where
   pub len : x.len ≡ length t
   pub text : take x.len x.bytes ≡ t
+
+-- the text t, and no refusal; or the number `why` of one
+abbrev pub Prints : ℕ → List ℕ → Result PrintedLine Refusal → Type 0
+Prints why t (Ok x) = (0 ≡ why) × Holds t x
+Prints why t (Err e) = number e ≡ why

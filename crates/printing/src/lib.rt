@@ -3,31 +3,33 @@
 
 #![tactic(auto)]
 
-ghost use Rattle.std.specs.Prelude.{◌≡◌, [], ◌∷◌, ◌-◌, ◌%◌, ◌^◌, ◌≤◌, eqb};
-ghost use Rattle.model.specs.Kinds.{last_kind};
+ghost use Rattle.std.specs.Prelude.{◌≡◌, [], ◌∷◌, ◌-◌, ◌%◌, ◌^◌, ◌≤◌, eqb, map};
 ghost use Rattle.model.specs.Call.{words_of};
+ghost use Rattle.model.specs.KindNumbers.{kind_number};
+ghost use Rattle.model.specs.Listing.{decimal};
+ghost use Rattle.model.specs.RefusalNumbers.{refused_by};
 ghost use Rattle.words.specs.Words.{use_of};
-ghost use Rattle.runfile.specs.Answers.{vote_words, file_opening};
+ghost use Rattle.runfile.specs.Answers.{file_opening};
 ghost use Rattle.text.specs.Text.{Room, Wrote};
 ghost use Rattle.story.specs.Sets.{member_text, members_text, set_text};
-ghost use Rattle.story.specs.Keywords.{kind_word};
-ghost use Rattle.story.specs.Printing.{can_tell, has_line, arg_fields, kind_fields, action_text};
+ghost use Rattle.story.specs.Printing.{can_tell, arg_fields, kind_fields, action_text};
 ghost use Rattle.story.specs.Printing.{founders_fields, votes_fields, opening_text, tell_refusal};
-ghost use Rattle.printing.specs.Lines.{spaced, four_fields, kind_text, raw_text, told_text, Prints};
+ghost use Rattle.printing.specs.Lines.{spaced, kind_text, raw_text, TellsKind, Holds, Prints};
 
-use model::{kind_numbers, refusal_numbers};
+use model::kinds::Kind;
+use model::refusals::Refusal;
 use quorum::{all_of, in_mask};
-use runfile::{FileOpening, Votes, refused_opening};
+use runfile::{FileOpening, refused_opening};
+use story::kind_word;
 use text::{put_decimal, put_field, put_number, put_word};
-use words::{Use, Uses, first, is_outside, refusal, uses_of};
+use words::{Use, Uses, refuse, uses_of};
 
 // No line is longer.
 pub const MAX_LINE: usize = 160;
 
-// A refusal's number, 0 for none, and a line: the first `len` bytes.
+// A line: the first `len` bytes.
 #[derive(Clone, Copy)]
-pub struct Printed {
-    pub number: u32,
+pub struct PrintedLine {
     pub bytes: [u8; MAX_LINE],
     pub len: usize,
 }
@@ -94,15 +96,14 @@ fn can_tell(u: Use, w: u32) -> bool
     }
 }
 
-// Has an action a line of its kind?
-fn has_line(k: u32, r: u32, a: u32, b: u32) -> bool
-    ensures { result ≡ has_line (words_of k r a b) }
+// The kind in whose line an action is told, if it has a line of its kind.
+fn kind_of_line(k: u32, r: u32, a: u32, b: u32) -> Option<Kind>
+    ensures { TellsKind (words_of k r a b) result }
 {
-    if is_outside(1, kind_numbers::LAST_KIND, k) {
-        return false;
-    }
-    let Uses(of_r, of_a, of_b) = uses_of(k);
-    can_tell(of_r, r) & (can_tell(of_a, a) & can_tell(of_b, b))
+    let kind = Kind::try_from(k).ok()?;
+    let Uses(of_r, of_a, of_b) = uses_of(kind);
+    let told = can_tell(of_r, r) & (can_tell(of_a, a) & can_tell(of_b, b));
+    told.then_some(kind)
 }
 
 // A word as fields after the first, by its use.
@@ -118,10 +119,9 @@ fn put_arg(out: &mut [u8], at: usize, u: Use, w: u32) -> usize
 }
 
 // The words that a kind uses, in turn.
-fn put_args(out: &mut [u8], at: usize, k: u32, r: u32, a: u32, b: u32) -> usize
-    requires le_k { (1 ≤ k) × (k ≤ last_kind) }
-    requires room { Room out.old at (spaced (kind_fields (words_of k r a b))) }
-    ensures { Wrote out.old at (spaced (kind_fields (words_of k r a b))) out.new result }
+fn put_args(out: &mut [u8], at: usize, k: Kind, r: u32, a: u32, b: u32) -> usize
+    requires { Room out.old at (spaced (kind_fields (words_of (kind_number k) r a b))) }
+    ensures { Wrote out.old at (spaced (kind_fields (words_of (kind_number k) r a b))) out.new result }
 {
     let Uses(of_r, of_a, of_b) = uses_of(k);
     let after_r = put_arg(out, at, of_r, r);
@@ -129,40 +129,26 @@ fn put_args(out: &mut [u8], at: usize, k: u32, r: u32, a: u32, b: u32) -> usize
     put_arg(out, after_a, of_b, b)
 }
 
-// The words of the kinds, 1 to 11 in turn.
-const KIND_WORDS: [&[u8]; 11] = [
-    b"submit", b"label", b"send", b"summary", b"form", b"enter", b"place", b"receive", b"safe",
-    b"confirm", b"deliver",
-];
-
-// The word of a kind.
-fn kind_word(k: u32) -> &'static [u8]
-    requires { (1 ≤ k) × (k ≤ last_kind) }
-    ensures { result.now ≡ kind_word k }
-{
-    KIND_WORDS[(k - 1) as usize]
-}
-
 // The word of the kind, and the words that it uses: `submit 2 101`, `form 4 {1,3}`.
-fn put_kind_line(out: &mut [u8], at: usize, k: u32, r: u32, a: u32, b: u32) -> usize
-    requires le_k { (1 ≤ k) × (k ≤ last_kind) }
-    requires room { Room out.old at (kind_text (words_of k r a b)) }
-    ensures { Wrote out.old at (kind_text (words_of k r a b)) out.new result }
+fn put_kind_line(out: &mut [u8], at: usize, k: Kind, r: u32, a: u32, b: u32) -> usize
+    requires { Room out.old at (kind_text (words_of (kind_number k) r a b)) }
+    ensures { Wrote out.old at (kind_text (words_of (kind_number k) r a b)) out.new result }
 {
     let after_word = put_word(out, at, kind_word(k));
     let after_args = put_args(out, after_word, k, r, a, b);
     put_word(out, after_args, b"\n")
 }
 
-// Four numbers as fields after the first.
-fn put_four(out: &mut [u8], at: usize, w: u32, x: u32, y: u32, z: u32) -> usize
-    requires { Room out.old at (spaced (four_fields w x y z)) }
-    ensures { Wrote out.old at (spaced (four_fields w x y z)) out.new result }
+// Numbers as fields after the first.
+fn put_numbers(out: &mut [u8], at: usize, numbers: &[u32]) -> usize
+    requires { Room out.old at (spaced (map decimal numbers.now)) }
+    ensures { Wrote out.old at (spaced (map decimal numbers.now)) out.new result }
 {
-    let a = put_number(out, at, w);
-    let b = put_number(out, a, x);
-    let c = put_number(out, b, y);
-    put_number(out, c, z)
+    let mut next = at;
+    for x in numbers {
+        next = put_number(out, next, *x);
+    }
+    next
 }
 
 // Any four words: `raw 12 9 0 0`.
@@ -171,7 +157,7 @@ fn put_raw_line(out: &mut [u8], at: usize, k: u32, r: u32, a: u32, b: u32) -> us
     ensures { Wrote out.old at (raw_text (words_of k r a b)) out.new result }
 {
     let after_word = put_word(out, at, b"raw");
-    let after_words = put_four(out, after_word, k, r, a, b);
+    let after_words = put_numbers(out, after_word, &[k, r, a, b]);
     put_word(out, after_words, b"\n")
 }
 
@@ -180,24 +166,19 @@ fn put_action(out: &mut [u8], at: usize, k: u32, r: u32, a: u32, b: u32) -> usiz
     requires { Room out.old at (action_text (words_of k r a b)) }
     ensures { Wrote out.old at (action_text (words_of k r a b)) out.new result }
 {
-    if has_line(k, r, a, b) {
-        put_kind_line(out, at, k, r, a, b)
-    } else {
-        put_raw_line(out, at, k, r, a, b)
+    match kind_of_line(k, r, a, b) {
+        Some(kind) => put_kind_line(out, at, kind, r, a, b),
+        None => put_raw_line(out, at, k, r, a, b),
     }
 }
 
 // The line of an action.
-pub fn print_action(k: u32, r: u32, a: u32, b: u32) -> Printed
-    ensures { Prints 0 (action_text (words_of k r a b)) result }
+pub fn print_action(k: u32, r: u32, a: u32, b: u32) -> PrintedLine
+    ensures { Holds (action_text (words_of k r a b)) result }
 {
     let mut bytes = [0u8; MAX_LINE];
     let len = put_action(&mut bytes, 0, k, r, a, b);
-    Printed {
-        number: 0,
-        bytes,
-        len,
-    }
+    PrintedLine { bytes, len }
 }
 
 // ## Openings
@@ -219,16 +200,15 @@ fn put_founders(out: &mut [u8], at: usize, n: u32, m: u32) -> usize
 }
 
 // The vote words, where the third word is 1.
-fn put_votes(out: &mut [u8], at: usize, third: u32, v: Votes) -> usize
-    requires { Room out.old at (spaced (votes_fields third (vote_words v))) }
-    ensures { Wrote out.old at (spaced (votes_fields third (vote_words v))) out.new result }
+fn put_votes(out: &mut [u8], at: usize, third: u32, words: &[u32]) -> usize
+    requires { Room out.old at (spaced (votes_fields third words.now)) }
+    ensures { Wrote out.old at (spaced (votes_fields third words.now)) out.new result }
 {
     if third != 1 {
         return at;
     }
-    let a = put_field(out, at, b"votes");
-    let b = put_four(out, a, v.v1, v.v2, v.v3, v.v4);
-    put_four(out, b, v.v5, v.v6, v.v7, v.v8)
+    let next = put_field(out, at, b"votes");
+    put_numbers(out, next, words)
 }
 
 // An opening's line: `hall 3 founders {1,2}`.
@@ -240,34 +220,24 @@ fn put_opening(out: &mut [u8], at: usize, o: FileOpening) -> usize
     let a = put_word(out, at, b"hall");
     let b = put_number(out, a, o.size);
     let c = put_founders(out, b, o.size, o.founders);
-    let d = put_votes(out, c, o.third, o.words);
+    let d = put_votes(out, c, o.third, &o.words);
     put_word(out, d, b"\n")
 }
 
-// 16, 41, and 19 for a third word above 1; 0 for none.
-fn tell_refusal(o: FileOpening) -> u32
-    ensures { result ≡ tell_refusal (file_opening o) }
+// 16, 41, and 19 for a third word above 1.
+fn tell_refusal(o: FileOpening) -> Result<(), Refusal>
+    ensures { refused_by result ≡ tell_refusal (file_opening o) }
 {
-    first(refused_opening(o), refusal(1 < o.third, refusal_numbers::FILE))
+    refused_opening(o)?;
+    refuse(1 < o.third, Refusal::File)
 }
 
-// The line of an opening; or the number of its refusal, and nothing.
-pub fn print_opening(o: FileOpening) -> Printed
-    ensures { Prints (tell_refusal (file_opening o)) (told_text (file_opening o)) result }
+// The line of an opening.
+pub fn print_opening(o: FileOpening) -> Result<PrintedLine, Refusal>
+    ensures { Prints (tell_refusal (file_opening o)) (opening_text (file_opening o)) result }
 {
+    tell_refusal(o)?;
     let mut bytes = [0u8; MAX_LINE];
-    let why = tell_refusal(o);
-    if why != 0 {
-        return Printed {
-            number: why,
-            bytes,
-            len: 0,
-        };
-    }
     let len = put_opening(&mut bytes, 0, o);
-    Printed {
-        number: 0,
-        bytes,
-        len,
-    }
+    Ok(PrintedLine { bytes, len })
 }

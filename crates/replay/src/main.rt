@@ -31,10 +31,7 @@ fn replay(file: &[u8], text: &mut [u8]) -> usize
     ensures { (result ≤ length text.new) × (take result text.new ≡ listing hl3 file.now) }
 {
     let mut hall = [0u8; replaying::HALL];
-    match replaying::list_run(file, &mut hall, text) {
-        Ok(len) => len,
-        Err(_) => 0,
-    }
+    replaying::list_run(file, &mut hall, text).unwrap_or(0)
 }
 
 // Reads to the start of a slice, until it is full or the input has ended. Gives how many bytes were read.

@@ -6,6 +6,10 @@ use mathlib.Core.List.{List, [], ◌∷◌}
 use lib.Dec.{eqb}
 use lib.ListN.{length}
 use borrow.Author.Tests.{eqb-false}
+use Rattle.std.proofs.Common.{◌≢◌}
+use Rattle.model.specs.declared.refusals.Refusal.{Refusal}
+use Rattle.model.specs.RefusalNumbers.{number}
+use Rattle.model.proofs.RefusalNumbersLaws.{has-number}
 use Rattle.base.specs.Chains.{◌⨾◌}
 use Rattle.base.proofs.Bools.{by_cases}
 use Rattle.calls.specs.Lent.{answer_length, with_answer, lent_call, Leaves}
@@ -14,7 +18,7 @@ use Rattle.runfile.specs.InRange.{Bytes}
 use Rattle.std.specs.Prelude.{Ok, Err}
 use Rattle.replaying.specs.Listings.{Outcome, list_on, Gives}
 use Rattle.replaying.specs.Lent.{listed_words, list_lent, LeavesList}
-use Rattle.replaying.proofs.Whole.{only-short, refused-some, listed-most, always-most}
+use Rattle.replaying.proofs.Whole.{only-short, listed-most, always-most}
 
 module _ (f hall text out : List ℕ) where
   abbrev o : Outcome
@@ -35,13 +39,13 @@ module _ (f hall text out : List ℕ) where
       both (lent-tried (listed_words o) hall o.hall out 18 e l) (lent-tried (listed_words o) text o.text out 18 e l)
 
   -- refused
-  pub list-refused : {why : ℕ} {b t : List ℕ} → Gives o (Err why) b t → LeavesList (list_lent f hall text out) why b t out
+  pub list-refused : {why : Refusal} {b t : List ℕ} → Gives o (Err why) b t → LeavesList (list_lent f hall text out) (number why) b t out
   list-refused {why} g =
-      let ne = refused-some f hall text g in
+      let ne : number why ≢ 0 = has-number why in
       let same = only-short f hall text (λ z. ne (g.number ∙ z)) in
       let l =
-      both (lent-refused (listed_words o) hall o.hall out why g.number ne)
-      (lent-refused (listed_words o) text o.text out why g.number ne) in
+      both (lent-refused (listed_words o) hall o.hall out (number why) g.number ne)
+      (lent-refused (listed_words o) text o.text out (number why) g.number ne) in
       record {
         number = l.number;
         hall = g.hall ∙ ap (λ (z : Outcome). z.hall) same ∙ l.hall;

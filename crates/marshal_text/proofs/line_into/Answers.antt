@@ -1,7 +1,10 @@
 -- By cases. Assumes nothing.
-use mathlib.Core.Path.{sym, ap, ap₂, ◌∙◌}
+use borrow.Author.Rules.{rules}
+use lib.ListN.{length}
+use mathlib.Core.Path.{◌≡◌, sym, ap, ap₂, ◌∙◌}
 use Prim.Native.Nat.{ℕ}
-use mathlib.Core.List.{[], ◌∷◌}
+use mathlib.Core.List.{List, [], ◌∷◌}
+use Rattle.runfile.proofs.WriteLaws.{eight}
 use Rattle.calls.specs.Lent.{taken}
 use Rattle.calls.specs.RunsLent.{offset_words}
 use Rattle.lent.proofs.Plain.{leaves-as}
@@ -24,13 +27,10 @@ unfolding line_words line_meaning offset_words
 returns-in-Opening c = λ h.
     let a = c.args in
     let o = c.in-Opening.o in
-    let v = o.words in
+    let n : length o.words ≡ 8 = search rules in
     leaves-as h a.out.now
-    (ap₂
-    (λ (low high : ℕ).
-    taken (1 ∷ low ∷ high ∷ o.size ∷ o.founders ∷ o.third ∷ v.v1 ∷ v.v2 ∷ v.v3 ∷ v.v4 ∷ v.v5 ∷ v.v6 ∷ v.v7 ∷ v.v8 ∷ []))
-    c.low-in-Opening.ensures
-    c.high-in-Opening.ensures
+    (ap (λ (ws : List ℕ). taken (1 ∷ c.low-in-Opening.result ∷ c.high-in-Opening.result ∷ o.size ∷ o.founders ∷ o.third ∷ ws)) (sym (eight o.words n))
+    ∙ ap₂ (λ (low high : ℕ). taken (1 ∷ low ∷ high ∷ o.size ∷ o.founders ∷ o.third ∷ o.words)) c.low-in-Opening.ensures c.high-in-Opening.ensures
     ∙ sym (ap (λ (l : Line). taken (line_words (line_meaning l) a.next)) c.in-Opening.is))
     (c.answer_into-in-Opening.ensures h)
 

@@ -1,4 +1,4 @@
--- `marshal_text::list_into` meets its contract. Assumes nothing.
+-- By the listing. Assumes nothing.
 use native.Mathlib.Omega.{arith}
 use Rattle.replaying.proofs.LentLaws.{list-no-room, list-refused, list_done, list_length}
 use Rattle.marshal_text.proofs.list_into.Goals as goal
@@ -6,22 +6,19 @@ use Rattle.marshal_text.proofs.list_into.Goals as goal
 pub returns-then-out-lt-ANSWER : goal.returns-then-out-lt-ANSWER
 returns-then-out-lt-ANSWER c =
     let a = c.args in
-    list-no-room a.file.now a.hall.now a.text.now a.out.now c.if-out-lt-ANSWER.true
+    rw c.from.ensures (list-no-room a.file.now a.hall.now a.text.now a.out.now c.if-out-lt-ANSWER.true)
 
-pub returns-then-listed-ne0 : goal.returns-then-listed-ne0
-returns-then-listed-ne0 c =
+pub returns-in-Err : goal.returns-in-Err
+returns-in-Err c =
     let a = c.args in
-    let x = c.list_run-listed in
-    list-refused a.file.now a.hall.now a.text.now a.out.now x.result _ _ x.ensures c.if-listed-ne0.true
+    rw c.from-in-Err.ensures (list-refused a.file.now a.hall.now a.text.now a.out.now c.in-Err.ensures)
 
 pub overflow_cast-length : goal.overflow_cast-length
 overflow_cast-length c =
     let a = c.args in
-    let x = c.list_run-listed in
-    omega (arith, list_length a.file.now a.hall.now a.text.now a.out.now x.result _ _ x.ensures (λ i. (c.type_inv.file i).fits))
+    omega (arith, list_length a.file.now a.hall.now a.text.now a.out.now c.in-Ok.ensures (λ i. (c.type_inv.file i).fits))
 
-pub returns : goal.returns
-returns c =
+pub returns-in-Ok : goal.returns-in-Ok
+returns-in-Ok c =
     let a = c.args in
-    let x = c.list_run-listed in
-    list_done a.file.now a.hall.now a.text.now a.out.now x.result _ _ x.ensures c.if-listed-ne0.false (omega (arith, c.if-out-lt-ANSWER.false)) _ c.put_values.ensures
+    list_done a.file.now a.hall.now a.text.now a.out.now c.in-Ok.ensures (omega (arith, c.if-out-lt-ANSWER.false)) c.put_values.ensures

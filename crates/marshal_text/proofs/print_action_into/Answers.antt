@@ -8,4 +8,4 @@ put_line-requires c = printed-fits c.print_action.ensures
 
 pub returns : goal.returns
 unfolding action_lent
-returns c = c.put_line.ensures _ _ c.print_action.ensures
+returns c = c.put_line.ensures _ c.print_action.ensures
