@@ -17,7 +17,6 @@ use Rattle.model.specs.RefusalNumbers.{number}
 use Rattle.model.proofs.RefusalNumbersLaws.{has-number}
 use Rattle.answer.specs.declared.Answer.{Answer}
 use Rattle.answer.specs.Meaning.{meaning, settled_meaning}
-use Rattle.calls.specs.Calls.{step_on}
 use Rattle.calls.specs.Steps.{Steps}
 use Rattle.undo.specs.Buffer.{is_undo, pushed}
 use Rattle.undo.specs.Parts.{slot_of}

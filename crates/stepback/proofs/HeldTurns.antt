@@ -1,7 +1,7 @@
 -- Turn after turn of a held settle: the calls taken so far are held, and what is left of the settle. Assumes nothing.
 use Prim.Native.Nat.{ℕ, ◌+◌, ◌<◌}
 use native.Mathlib.Omega.{arith}
-use mathlib.Core.Path.{◌≡◌, refl, sym, ap, ap₂, ◌∙◌, subst}
+use mathlib.Core.Path.{◌≡◌, refl, sym, ap, ap₂, ◌∙◌}
 use mathlib.Core.Bool.{true}
 use mathlib.Core.List.{List, [], ◌∷◌, ◌++◌}
 use Rattle.std.specs.Prelude.{Result, Ok, Err}
@@ -16,12 +16,12 @@ use Rattle.model.specs.declared.refusals.Refusal.{Refusal}
 use Rattle.model.specs.KindNumbers.{kind_number}
 use Rattle.store.specs.StoredForm.{hall_of}
 use Rattle.answer.specs.Meaning.{settled_meaning}
-use Rattle.calls.specs.Calls.{step_on, settling_on, SettleOutcome, settle_on}
+use Rattle.calls.specs.Calls.{settling_on, settle_on}
 use Rattle.calls.proofs.SettleLaws.{settling-held}
 use Rattle.hall.specs.declared.View.{View}
 use Rattle.hall.specs.Parts.{ViewIs}
 use Rattle.step.specs.Numbers.{bytes_number}
-use Rattle.settling.specs.Turns.{found, InView, TurnsTaken}
+use Rattle.settling.specs.Turns.{found, InView}
 use Rattle.settling.specs.declared.Turn.{Turn}
 use Rattle.settling.proofs.TakenLaws.{Going, going-none, none-taken, next-taken, going_next, going-full, going_done, going-out, taken-accepts, taken-low, whole-done, whole_out}
 use Rattle.settling.proofs.CopyLaws.{not-barred, settle_goes}
@@ -31,7 +31,7 @@ use Rattle.undo.specs.Parts.{slot_of}
 use Rattle.undo.specs.Code.{Accepts}
 use Rattle.undo.proofs.BufferLaws.{pushed-is_undo}
 use Rattle.undo.proofs.PartsCover.{accepted-small, slot_ok}
-use Rattle.stepback.specs.Held.{Bench, bench_of, HeldStep, step_held_on, held_run, HeldSettle, settle_held_number}
+use Rattle.stepback.specs.Held.{Bench, bench_of, step_held_on, held_run, HeldSettle, settle_held_number}
 use Rattle.stepback.specs.Steps.{Left, SettlesHeld}
 use Rattle.stepback.specs.Turns.{TurnsHeld}
 use Rattle.stepback.proofs.HeldLaws.{step-takes, settle-made, settle-links}

@@ -17,11 +17,10 @@ use Rattle.model.specs.Agreed.{Agreed}
 use Rattle.calls.specs.Lent.{answer_length, with_answer, lent_number}
 use Rattle.calls.specs.Histories.{Opens, history_on}
 use Rattle.undo.specs.Buffer.{is_undo, held_in}
-use Rattle.stepback.specs.Held.{Bench, bench_of, HeldStep, step_held_on, HeldSettle, settle_held_on, SteppedBack, back_on}
-use Rattle.stepback.specs.Steps.{Left, StepsBack}
+use Rattle.stepback.specs.Held.{Bench, bench_of, step_held_on, settle_held_on, back_on}
 use Rattle.stepback.specs.Lent.{HeldLent, held_call, step_held_lent, settle_held_lent}
 use Rattle.stepback.specs.Runs.{BenchCall, step, settle, CallsFit, after, after_all, remaining, held_count}
-use Rattle.stepback.specs.LentRuns.{LentStep, LentSettle, LentBack, LentCall, steps, settles, backs, LentMet, LentFit, lent_after, with_room, lent_calls}
+use Rattle.stepback.specs.LentRuns.{LentCall, steps, settles, backs, LentMet, LentFit, lent_after, with_room, lent_calls}
 use Rattle.stepback.specs.Promises.{BenchRun}
 use Rattle.stepback.specs.Kept.{KeepsBench}
 use Rattle.stepback.proofs.HeldLaws.{step-keeps-bench, settle-keeps-bench}

@@ -11,7 +11,7 @@ use Rattle.model.specs.Call.{Words}
 use Rattle.model.specs.Settle.{cannot_settle, calls_taken}
 use Rattle.store.specs.Layout.{stored_length}
 use Rattle.store.specs.StoredForm.{hall_of, is_stored}
-use Rattle.calls.specs.Calls.{Outcome, step_on, settling_on, SettleOutcome, settle_on}
+use Rattle.calls.specs.Calls.{step_on, settling_on, settle_on}
 use Rattle.step.specs.Numbers.{word_kind_number, bytes_number}
 use Rattle.undo.specs.Buffer.{Slot, is_undo, held_in, newest_of, pushed, popped, put_back}
 use Rattle.undo.specs.Parts.{slot_of}

@@ -1,9 +1,9 @@
 -- A refused call leaves both slices, the hall's and the undo buffer's.
 -- Assumes nothing.
 use Rattle.std.specs.Prelude.{ℕ, ◌≡◌}
-use Rattle.model.specs.Answers.{Plain, plain}
+use Rattle.model.specs.Answers.{plain}
 use Rattle.model.specs.Call.{Words}
-use Rattle.stepback.specs.Held.{Bench, HeldStep, step_held_on, HeldSettle, settle_held_on, SteppedBack, back_on}
+use Rattle.stepback.specs.Held.{Bench, step_held_on, settle_held_on, back_on}
 
 -- a call that returned the number n keeps both slices if it is refused
 abbrev pub KeepsBench : ℕ → Bench → Bench → Type 0

@@ -4,7 +4,7 @@ use Rattle.std.specs.Prelude.{ℕ, ◌≡◌, true, false, List, eqb}
 use Rattle.model.specs.Answers.{Plain, plain}
 use Rattle.model.specs.Call.{Words}
 use Rattle.calls.specs.Lent.{with_answer, lent_number}
-use Rattle.stepback.specs.Held.{Bench, HeldStep, step_held_on, HeldSettle, settle_held_on}
+use Rattle.stepback.specs.Held.{Bench, step_held_on, settle_held_on}
 
 -- the number that a call returns, the bench that it leaves, and the answer's slice
 pub record HeldLent : Type 0 where

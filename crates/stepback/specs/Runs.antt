@@ -2,13 +2,13 @@
 -- actions that remain (02, A7). Refused calls are left out.
 -- Assumes nothing.
 use Rattle.std.specs.Prelude.{ℕ, zero, suc, ◌+◌, ◌-◌, ◌^◌, ◌<◌, min, ◌≡◌, true, false, List, [], ◌∷◌, ◌++◌, eqb, length}
-use Rattle.model.specs.Answers.{Plain, accepted}
+use Rattle.model.specs.Answers.{accepted}
 use Rattle.model.specs.Call.{Words}
 use Rattle.model.specs.Settle.{calls_taken}
-use Rattle.calls.specs.Calls.{Outcome, step_on, settling_on}
+use Rattle.calls.specs.Calls.{step_on, settling_on}
 use Rattle.undo.specs.Buffer.{Slot, max_slots}
 use Rattle.undo.specs.Parts.{slot_of}
-use Rattle.stepback.specs.Held.{Bench, HeldStep, step_held_on, HeldSettle, settle_held_on, SteppedBack, back_on}
+use Rattle.stepback.specs.Held.{Bench, step_held_on, settle_held_on, back_on}
 
 pub data BenchCall : Type 0 where
   step : Words → BenchCall

@@ -1,4 +1,4 @@
--- What the calls `step_held`, `settle_held` and `step_back` return and leave: the definition's answer, as an enum of the code,
+-- What the calls `step_held`, `settle_held` and `step_back` return and leave: the definition's answer, as a value of the code,
 -- and the definition's slices.
 -- Assumes nothing.
 use Rattle.std.specs.Prelude.{ℕ, ◌≡◌, List, Result}
@@ -6,7 +6,7 @@ use Rattle.model.specs.Call.{words_of}
 use Rattle.model.specs.declared.refusals.Refusal.{Refusal}
 use Rattle.answer.specs.declared.Answer.{Answer}
 use Rattle.answer.specs.Meaning.{meaning, settled_meaning}
-use Rattle.stepback.specs.Held.{Bench, bench_of, HeldStep, step_held_on, HeldSettle, settle_held_on, SteppedBack, back_on}
+use Rattle.stepback.specs.Held.{Bench, bench_of, step_held_on, settle_held_on, back_on}
 
 -- the slices c and v are those of a bench
 pub record Left (x : Bench) (c v : List ℕ) : Type 0 where

@@ -1,6 +1,5 @@
 -- What the code of a held settle leaves: a promise within this crate. Assumes nothing.
 use Rattle.std.specs.Prelude.{ℕ, ◌≡◌, List, Result}
-use Rattle.model.specs.Answers.{Plain}
 use Rattle.model.specs.Call.{hl3}
 use Rattle.model.specs.Settle.{calls_taken, plain_settle, max_turns, settle_from}
 use Rattle.model.specs.declared.refusals.Refusal.{Refusal}

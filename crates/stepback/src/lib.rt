@@ -112,7 +112,7 @@ fn take_call(hall: &mut [u8], undo: &mut [u8], v: View, k: Kind, r: u32)
 }
 
 // Turns in the greatest view, each held, until none is left or 40 is met.
-// The turns of `settling::take_turns` are as many lines, but on one slice: a turn given as a closure is no plainer.
+// `settling::take_turns` is alike, on one slice: with what a turn does given as a closure, the loop would be no plainer.
 fn take_turns(hall: &mut [u8], undo: &mut [u8], v: View) -> Result<u32, Refusal>
     requires { InView hall.old v × (is_undo undo.old ≡ true) }
     ensures { TurnsHeld hall.old undo.old v result hall.new undo.new }

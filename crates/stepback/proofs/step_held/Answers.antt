@@ -1,7 +1,5 @@
 -- Judged, then performed. Assumes nothing.
 use native.Mathlib.Omega.{arith}
-use mathlib.Core.Path.{subst}
-use Rattle.stepback.specs.Steps.{StepsHeld}
 use Rattle.stepback.proofs.HeldCode.{step-refuses, step-accepts}
 use Rattle.stepback.proofs.step_held.Goals as goal
 
@@ -15,9 +13,3 @@ take_held-requires c =
     let a = c.args in
     let k = c.in_ok-kind in
     step-accepts a.hall.now a.undo.now a.k a.r a.a a.b k.ensures.number (omega (arith, c.ranges.a)) k.kind k.ensures.kind
-
-pub returns : goal.returns
-returns c =
-    let a = c.args in
-    let t = c.take_held in
-    subst (λ j. StepsHeld a.hall.now a.undo.now j a.r a.a a.b t.result t.new.hall t.new.undo) c.in_ok-kind.ensures.kind t.ensures

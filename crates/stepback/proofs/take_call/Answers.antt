@@ -3,7 +3,7 @@ use mathlib.Core.Path.{sym, subst}
 use Rattle.model.specs.Call.{Words}
 use Rattle.model.specs.KindNumbers.{kind_number}
 use Rattle.undo.specs.Code.{Accepts}
-use Rattle.stepback.specs.Held.{bench_of, HeldStep, step_held_on}
+use Rattle.stepback.specs.Held.{bench_of, step_held_on}
 use Rattle.stepback.specs.Steps.{Left}
 use Rattle.stepback.proofs.HeldTurns.{call-words}
 use Rattle.stepback.proofs.take_call.Goals as goal

@@ -6,9 +6,6 @@ use Rattle.stepback.proofs.take_turns.Goals as goal
 pub loop-count-init : goal.loop-count-init
 loop-count-init c = held_none c.args.hall.now c.args.undo.now c.args.v c.requires.0 c.requires.1
 
-pub find_turn-requires : goal.find_turn-requires
-find_turn-requires c = c.loop-count.invariant.going.in_view.holds
-
 pub take_call-requires : goal.take_call-requires
 take_call-requires c =
     let a = c.args in
