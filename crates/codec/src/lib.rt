@@ -17,20 +17,6 @@ ghost use Rattle.codec.specs.ByteList.{items, list_at, list_bytes, all_in, list_
 ghost use Rattle.codec.specs.Ends.{first_of, found_of};
 ghost use Rattle.codec.specs.Flags.{set_of};
 
-// Do both hold? Both are looked at, and there is no branch: for loops that gather.
-pub fn both(a: bool, b: bool) -> bool
-    ensures { result ≡ (a && b) }
-{
-    a & b
-}
-
-// Does one of two hold? Both are looked at, and there is no branch.
-pub fn or(a: bool, b: bool) -> bool
-    ensures { result ≡ (a || b) }
-{
-    a | b
-}
-
 // A flag's byte: 1 or 0.
 pub fn flag_byte(t: bool) -> u8
     ensures { result ≡ bit t }

@@ -4,11 +4,8 @@
 
 #![tactic(auto)]
 
-pub mod kind_numbers;
 pub mod kinds;
 pub mod limits;
 pub mod payload;
-pub mod phase_numbers;
 pub mod phases;
-pub mod refusal_numbers;
 pub mod refusals;

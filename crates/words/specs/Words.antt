@@ -1,14 +1,8 @@
--- The kind that a number names, and what the code's table says of a kind. Assumes nothing.
-use Rattle.std.specs.Prelude.{ℕ}
+-- What the code's table says of a kind. Assumes nothing.
 use Rattle.model.specs.Kinds as model
-use Rattle.model.specs.Kinds.{Kind, submit, kind, no_kind, kind_of}
 use Rattle.words.specs.declared.Use.{Use}
 use Rattle.words.specs.declared.Use.TheVariants.{Unused, Word, Recorder, Number, Set}
 use Rattle.words.specs.declared.Uses.{Uses}
-
--- the kind with number k, 1 to the last kind's
-unfoldable pub kind_at : ℕ → Kind
-kind_at k = elim (kind_of k) [ kind κ ↦ κ | no_kind ↦ submit ]
 
 -- the model's use of a word
 unfoldable pub use_of : Use → model.Use
