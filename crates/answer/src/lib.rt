@@ -57,7 +57,7 @@ pub enum Answer {
     From(Sent),
 }
 
-// An answer in plain numbers: 0 or the refusal's number, and the answer's values.
+// An answer in plain numbers: 0 or the refusal's number, and the answer's values. A number beside values, since C is given both.
 #[derive(Clone, Copy)]
 pub struct Numbers<const N: usize> {
     pub number: u32,

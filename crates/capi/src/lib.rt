@@ -166,7 +166,7 @@ pub extern "C" fn hall_run_action(file: &[u8], at: usize, words: &mut [u8]) -> u
     run_action_into(file, at, words)
 }
 
-// An opening by its words.
+// An opening by its words, one by one as C passes them.
 fn opening_of(
     n: u32,
     founders: u32,

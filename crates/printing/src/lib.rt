@@ -27,7 +27,7 @@ use words::{Use, Uses, refuse, uses_of};
 // No line is longer.
 pub const MAX_LINE: usize = 160;
 
-// A line: the first `len` bytes.
+// A line: the first `len` bytes. An array and a length, since there is no heap.
 #[derive(Clone, Copy)]
 pub struct PrintedLine {
     pub bytes: [u8; MAX_LINE],
