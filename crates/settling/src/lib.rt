@@ -45,7 +45,8 @@ const ORDER: [Kind; 9] = [
     Kind::Deliver,
 ];
 
-// What a turn finds: the call that it takes, by kind and recorder, a 40 before one, or no call.
+// What a turn finds: the call that it takes, by kind and recorder, a 40 before one, or no call. Three cases, as the model's
+// `Settle.Turn` has them.
 #[derive(Clone, Copy)]
 pub enum Turn {
     Takes(Kind, u32),
@@ -53,13 +54,18 @@ pub enum Turn {
     Nothing,
 }
 
+// The kinds that name a view, by their numbers, as a call's words have them.
+const ENTER: u32 = Kind::Enter as u32;
+
+const PLACE: u32 = Kind::Place as u32;
+
 // The word A of a call: the view in kinds 6 and 7.
 #[tactic(auto, unfolding(model::specs::Settle::settle_call))]
-pub fn view_word(g: u32, k: Kind) -> u32
-    ensures { result ≡ (settle_call g (kind_number k) 0).a }
+pub fn view_word(g: u32, k: u32) -> u32
+    ensures { result ≡ (settle_call g k 0).a }
 {
     match k {
-        Kind::Enter | Kind::Place => g,
+        ENTER | PLACE => g,
         _ => 0,
     }
 }
@@ -72,7 +78,7 @@ fn try_call(b: &[u8], v: View, k: Kind, r: u32) -> Result<(), Refusal>
     if !in_mask(v.set, r) {
         return Err(Refusal::NoMember);
     }
-    let a = view_word(v.number, k);
+    let a = view_word(v.number, u32::from(k));
     refusal_kind(b, k, r, a, 0)
 }
 
@@ -114,7 +120,7 @@ fn take_call(work: &mut [u8], v: View, k: Kind, r: u32)
     requires { is_stored work.old ≡ true }
     ensures { work.new ≡ (step_on work.old (settle_call v.number (kind_number k) r)).bytes }
 {
-    let a = view_word(v.number, k);
+    let a = view_word(v.number, u32::from(k));
     let _ = step_kind(work, k, r, a, 0);
 }
 

@@ -107,7 +107,7 @@ fn take_call(hall: &mut [u8], undo: &mut [u8], v: View, k: Kind, r: u32)
     ensures { Left (step_held_on (bench_of hall.old undo.old) (settle_call v.number (kind_number k) r)).left
         hall.new undo.new }
 {
-    let a = view_word(v.number, k);
+    let a = view_word(v.number, u32::from(k));
     let _ = take_held(hall, undo, k, r, a, 0);
 }
 

@@ -11,4 +11,4 @@ unfolding settle_call
 returns c =
     let a = c.args in
     c.step_kind.ensures.bytes
-    ∙ ap (λ w. (step_on a.work.now (words_of (kind_number a.k) a.r w 0)).bytes) c.view_word-a.ensures
+    ∙ ap (λ w. (step_on a.work.now (words_of (kind_number a.k) a.r w 0)).bytes) (c.view_word-a.ensures ∙ ap (λ n. (settle_call a.v.number n 0).a) c.from.ensures)
