@@ -136,6 +136,22 @@ module _ {F : Type 0} {g : Mut F (ℕ × Unit {0}) Bool} {f : F} (t : ℕ → Bo
       → SomeRun nat_range_steps s (λ q. MatchBool r (IsTrue q.whole × AllItemsGive q g f true) (AnyItemGives q g f false)) → Tells t a b r
   all-range a b s r low high w = all-run a b w.0 (range-counts a b s low high w.0 w.1) r w.2
 
+  -- `(a..b).any(f)`: t fails of each, or not
+  pub any-range : (a b : ℕ) (s : Range ℕ) (r : Bool) → s.start ≡ a → s.end ≡ b
+      → SomeRun nat_range_steps s (λ q. MatchBool r (AnyItemGives q g f true) (IsTrue q.whole × AllItemsGive q g f false)) → Tells (λ k. not (t k)) a b (not r)
+  any-range a b s r low high w = any-run a b w.0 (range-counts a b s low high w.0 w.1) r w.2
+
+  -- `(1..n + 1).all(f)`
+  pub all-first : (n : ℕ) (s : Range ℕ) (r : Bool) → s.start ≡ 1 → s.end ≡ n + 1
+      → SomeRun nat_range_steps s (λ q. MatchBool r (IsTrue q.whole × AllItemsGive q g f true) (AnyItemGives q g f false)) → r ≡ all t (up_to n)
+  all-first n s r low high w = tells_up_to t n r (all-range 1 (n + 1) s r low high w)
+
+  -- `(1..n + 1).any(f)`
+  pub any-first : (n : ℕ) (s : Range ℕ) (r : Bool) → s.start ≡ 1 → s.end ≡ n + 1
+      → SomeRun nat_range_steps s (λ q. MatchBool r (AnyItemGives q g f true) (IsTrue q.whole × AllItemsGive q g f false)) → r ≡ any t (up_to n)
+  any-first n s r low high w =
+      sym (not-not r) ∙ ap not (tells_up_to (λ k. not (t k)) n (not r) (any-range 1 (n + 1) s r low high w)) ∙ sym (any-all t (up_to n))
+
   -- `(1..=n).all(f)`
   pub all-to : (n : ℕ) (s : RangeInclusive ℕ) (r : Bool) → range_inclusive_start s ≡ 1 → range_inclusive_end s ≡ n → range_inclusive_exhausted s ≡ false
       → SomeRun nat_range_inclusive_steps s (λ q. MatchBool r (IsTrue q.whole × AllItemsGive q g f true) (AnyItemGives q g f false)) → r ≡ all t (up_to n)

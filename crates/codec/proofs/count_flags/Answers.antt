@@ -1,12 +1,34 @@
--- The flags that are 1. Assumes nothing.
-use Rattle.std.proofs.Common.{◌≡◌, ◌∙◌, arith, take, eqb}
-use Rattle.std.proofs.lemmas.Grind.{common_steps}
-use Rattle.std.specs.List.{count_by}
-use Rattle.codec.proofs.FlagsLaws.{flags-count}
+-- Each flag in turn adds 1 or 0. Assumes nothing.
+use Prim.Native.Nat.{ℕ}
+use native.Mathlib.Omega.{arith}
+use native.Mathlib.Numerals.{add-one}
+use mir.Val.{bool_byte}
+use mathlib.Core.Bool.{Bool, true, false}
+use mathlib.Core.Path.{◌≡◌, refl, sym, ap, ◌∙◌}
+use Rattle.base.specs.Lists.{bit, count_of}
+use Rattle.base.specs.Numbers.{up_to}
+use Rattle.base.proofs.ListsLaws.{bit-small}
+use Rattle.codec.specs.Flags.{set_of}
+use Rattle.codec.proofs.FlagsLaws.{count-more}
 use Rattle.codec.proofs.count_flags.Goals as goal
 
-pub returns-clause-value : goal.returns-clause-value
-returns-clause-value c =
-    let a = c.args in
-    let e : c.count.result ≡ count_by (λ x. eqb x 1) (take a.n a.row.now) = grind (arith, common_steps) in
-    e ∙ flags-count a.row.now a.n c.requires
+byte-bit : (t : Bool) → bool_byte t ≡ bit t
+byte-bit true = refl
+byte-bit false = refl
+
+pub loop-i-init : goal.loop-i-init
+unfolding count_of up_to
+loop-i-init c = record { within = omega arith; small = omega arith; sum = refl }
+
+pub loop-i-preserved : goal.loop-i-preserved
+loop-i-preserved c =
+    let l = c.loop-i in
+    let p = set_of c.args.row.now in
+    let k = c.has_flag in
+    let one = c.from-sum.ensures ∙ byte-bit k.result in
+    record {
+      within = omega arith;
+      small = omega (arith, one, bit-small k.result);
+      sum = omega (arith, l.invariant.sum, one, ap bit k.ensures, ap (λ (j : ℕ). bit (p j)) (add-one l.i), count-more p l.i)
+          ∙ sym (ap (λ (j : ℕ). count_of p (up_to j)) (add-one l.i));
+    }
