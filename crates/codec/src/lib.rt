@@ -191,12 +191,10 @@ pub fn pop(l: ByteList) -> ByteList
     requires { (0 < l.len) × (l.len ≤ list_capacity) }
     ensures { (result.len ≡ l.len - 1) × (items result ≡ drop 1 (items l)) }
 {
+    let n = l.len - 1;
     let mut places = l.places;
-    places.copy_within(1..l.len, 0);
-    ByteList {
-        places,
-        len: l.len - 1,
-    }
+    places[..n].copy_from_slice(&l.places[1..l.len]);
+    ByteList { places, len: n }
 }
 
 // A list with one byte more, at the end.

@@ -122,11 +122,32 @@ fn functions(all: &[Token], owners: &HashMap<usize, String>) -> Vec<Function> {
         .map(|at| {
             let mut function = read_function(&all[at + 1..], is_public(&all[..at]));
             if let Some(owner) = owners.get(&function.line) {
+                if let Some(promise) = given(&all[..at], &function.name) {
+                    function.public = true;
+                    function.contract.push(promise);
+                }
                 function.name = format!("{owner}::{}", function.name);
             }
             function
         })
         .collect()
+}
+
+/// What a method of a trait of the library promises in an `impl`: `ghost NAME_gives = { .. };` before it. It is as public as the
+/// type.
+fn given(before: &[Token], name: &str) -> Option<Promise> {
+    let member = format!("{name}_gives");
+    let start = before
+        .iter()
+        .rposition(|token| without_generics(&token.text) == "impl")?;
+    let inside = &before[start..];
+    let at = pairs(inside, "ghost", &member).next()?;
+    let open = at + inside[at..].iter().position(|token| token.text == "{")?;
+    Some(Promise {
+        is_requires: false,
+        line: inside[at].line,
+        tokens: inside[open..after_group(inside, open)].to_vec(),
+    })
 }
 
 fn is_name(token: &Token) -> bool {
