@@ -23,14 +23,19 @@ taken Answer.Done = model.done
 taken (Answer.Message m) = model.message m.source (content_meaning m.content)
 taken (Answer.From s) = model.from s.sender (payload_meaning s.payload)
 
+-- an answer of a call, which anything that has a number may refuse
+abbrev pub meaning_by : {E : Type 0} → (E → ℕ) → Result Answer E → model.Answer
+meaning_by as_number (Ok a) = taken a
+meaning_by as_number (Err why) = model.refused (as_number why)
+
+-- the same of the code's refusals
 abbrev pub meaning : Result Answer Refusal → model.Answer
-meaning (Ok a) = taken a
-meaning (Err why) = model.refused (number why)
+meaning a = meaning_by number a
 
 -- the plain numbers are those of the meaning
-pub record SaysAnswer (a : Result Answer Refusal) (p : Numbers 6) : Type 0 where
-  pub number : p.number ≡ (plain (meaning a)).number
-  pub values : p.values ≡ (plain (meaning a)).values
+pub record SaysAnswer {E : Type 0} (as_number : E → ℕ) (a : Result Answer E) (p : Numbers 6) : Type 0 where
+  pub number : p.number ≡ (plain (meaning_by as_number a)).number
+  pub values : p.values ≡ (plain (meaning_by as_number a)).values
 
 unfoldable pub page_of : Page → model_page.Page
 page_of x =
@@ -50,19 +55,28 @@ page_of x =
       value = x.value;
     }
 
+-- a page's answer, likewise
+abbrev pub page_meaning_by : {E : Type 0} → (E → ℕ) → Result Page E → model_page.PageAnswer
+page_meaning_by as_number (Ok x) = model_page.shown (page_of x)
+page_meaning_by as_number (Err why) = model_page.refused (as_number why)
+
+-- of the code's refusals
 abbrev pub page_meaning : Result Page Refusal → model_page.PageAnswer
-page_meaning (Ok x) = model_page.shown (page_of x)
-page_meaning (Err why) = model_page.refused (number why)
+page_meaning a = page_meaning_by number a
 
-pub record SaysPage (a : Result Page Refusal) (p : Numbers 13) : Type 0 where
-  pub number : p.number ≡ (plain_page (page_meaning a)).number
-  pub values : p.values ≡ (plain_page (page_meaning a)).values
+pub record SaysPage {E : Type 0} (as_number : E → ℕ) (a : Result Page E) (p : Numbers 13) : Type 0 where
+  pub number : p.number ≡ (plain_page (page_meaning_by as_number a)).number
+  pub values : p.values ≡ (plain_page (page_meaning_by as_number a)).values
 
--- a settle's answer
+-- a settle's answer, likewise
+abbrev pub settled_meaning_by : {E : Type 0} → (E → ℕ) → Result ℕ E → model.Plain
+settled_meaning_by as_number (Ok n) = record { number = 0; values = n ∷ [] }
+settled_meaning_by as_number (Err why) = record { number = as_number why; values = 0 ∷ [] }
+
+-- of the code's refusals
 abbrev pub settled_meaning : Result ℕ Refusal → model.Plain
-settled_meaning (Ok n) = record { number = 0; values = n ∷ [] }
-settled_meaning (Err why) = record { number = number why; values = 0 ∷ [] }
+settled_meaning a = settled_meaning_by number a
 
-pub record SaysSettled (a : Result ℕ Refusal) (p : Numbers 1) : Type 0 where
-  pub number : p.number ≡ (settled_meaning a).number
-  pub values : p.values ≡ (settled_meaning a).values
+pub record SaysSettled {E : Type 0} (as_number : E → ℕ) (a : Result ℕ E) (p : Numbers 1) : Type 0 where
+  pub number : p.number ≡ (settled_meaning_by as_number a).number
+  pub values : p.values ≡ (settled_meaning_by as_number a).values

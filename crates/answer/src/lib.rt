@@ -4,11 +4,10 @@
 
 ghost use Rattle.std.specs.Prelude.{◌≡◌, replicate};
 ghost use Rattle.model.specs.Answers.{accepted, plain, word};
-ghost use Rattle.model.specs.RefusalNumbers.{number};
-ghost use Rattle.answer.specs.Meaning.{taken, meaning, SaysAnswer, SaysPage, SaysSettled};
+ghost use Rattle.answer.specs.Meaning.{taken, meaning_by, SaysAnswer, SaysPage, SaysSettled};
 
 use model::payload::Payload;
-use model::refusals::Refusal;
+use model::refusals::Numbered;
 
 // An entry, with its label and payload.
 #[derive(Clone, Copy)]
@@ -73,12 +72,12 @@ fn taken<const N: usize>(values: [u32; N]) -> Numbers<N>
 }
 
 // "A refusal gives its number, other answer fields 0"
-fn refused<const N: usize>(why: Refusal) -> Numbers<N>
-    ensures number { result.number ≡ number why }
+fn refused<const N: usize, E: Numbered>(why: E) -> Numbers<N>
+    ensures number { result.number ≡ E.as_number why }
     ensures values { result.values ≡ replicate N 0 }
 {
     Numbers {
-        number: u32::from(why),
+        number: why.to_number(),
         values: [0; N],
     }
 }
@@ -106,8 +105,8 @@ fn values(a: Answer) -> [u32; 6]
     }
 }
 
-pub fn plain(a: Result<Answer, Refusal>) -> Numbers<6>
-    ensures { SaysAnswer a result }
+pub fn plain<E: Numbered>(a: Result<Answer, E>) -> Numbers<6>
+    ensures { SaysAnswer E.as_number a result }
 {
     match a {
         Ok(x) => taken(values(x)),
@@ -116,10 +115,13 @@ pub fn plain(a: Result<Answer, Refusal>) -> Numbers<6>
 }
 
 #[tactic(auto, unfolding(model::specs::Answers::plain, model::specs::Answers::accepted))]
-pub fn is_accepted(a: Result<Answer, Refusal>) -> bool
-    ensures { result ≡ accepted (meaning a) }
+pub fn is_accepted<E: Numbered>(a: Result<Answer, E>) -> bool
+    ensures { result ≡ accepted (meaning_by E.as_number a) }
 {
-    a.is_ok()
+    match a {
+        Ok(_) => true,
+        Err(why) => why.to_number() == 0,
+    }
 }
 
 // "The page of a recorder gives .."; "the margin in place of the yes or no" (02, A1)
@@ -148,8 +150,8 @@ fn word(m: i32) -> u32
 }
 
 // A page in plain numbers: its fields in turn, the margin as a word.
-pub fn plain_page(a: Result<Page, Refusal>) -> Numbers<13>
-    ensures { SaysPage a result }
+pub fn plain_page<E: Numbered>(a: Result<Page, E>) -> Numbers<13>
+    ensures { SaysPage E.as_number a result }
 {
     match a {
         Ok(p) => taken([
@@ -172,8 +174,8 @@ pub fn plain_page(a: Result<Page, Refusal>) -> Numbers<13>
 }
 
 // A settle in plain numbers (02, A5): the count of accepted steps.
-pub fn plain_settled(a: Result<u32, Refusal>) -> Numbers<1>
-    ensures { SaysSettled a result }
+pub fn plain_settled<E: Numbered>(a: Result<u32, E>) -> Numbers<1>
+    ensures { SaysSettled E.as_number a result }
 {
     match a {
         Ok(n) => taken([n]),

@@ -6,15 +6,14 @@
 ghost use Rattle.std.specs.Prelude.{[], ◌∷◌};
 ghost use Rattle.model.specs.Payloads.{payload_meaning};
 ghost use Rattle.model.specs.Answers.{message};
-ghost use Rattle.model.specs.RefusalNumbers.{number};
 ghost use Rattle.model.specs.Listing.{decimal, line, action_line, end_line, refused_line, hall-word};
-ghost use Rattle.answer.specs.Meaning.{taken, meaning, content_meaning};
+ghost use Rattle.answer.specs.Meaning.{taken, meaning_by, content_meaning};
 ghost use Rattle.text.specs.Text.{Room, Wrote, Sized};
 ghost use Rattle.listing.specs.Lines.{answer_text, entry_text, summary_text, sent_text, refusal_text};
 ghost use Rattle.listing.specs.Lines.{kind_only, max_answer, max_line};
 
 use answer::{Answer, Content, EntryPart, Message, Sent, SummaryCounts};
-use model::refusals::Refusal;
+use model::refusals::Numbered;
 
 // "`entry` gives view.sequence.sender and value"
 fn put_entry(out: &mut [u8], at: usize, e: EntryPart) -> usize
@@ -61,12 +60,12 @@ fn put_sent(out: &mut [u8], at: usize, s: Sent) -> usize
     text::put_last_two(out, next, s.sender, s.payload.value)
 }
 
-fn put_refusal(out: &mut [u8], at: usize, why: Refusal) -> usize
-    requires { Room out.old at (refusal_text (number why)) }
-    ensures { Wrote out.old at (refusal_text (number why)) out.new result }
+fn put_refusal<E: Numbered>(out: &mut [u8], at: usize, why: E) -> usize
+    requires { Room out.old at (refusal_text (E.as_number why)) }
+    ensures { Wrote out.old at (refusal_text (E.as_number why)) out.new result }
 {
     let next = text::put_field(out, at, b"refused");
-    text::put_last(out, next, u32::from(why))
+    text::put_last(out, next, why.to_number())
 }
 
 // The answer of an action that is taken, to the end of its line.
@@ -82,9 +81,9 @@ fn put_taken(out: &mut [u8], at: usize, a: Answer) -> usize
 }
 
 // An answer to the end of its line.
-fn put_answer(out: &mut [u8], at: usize, a: Result<Answer, Refusal>) -> usize
-    requires { Room out.old at (answer_text (meaning a)) }
-    ensures { Wrote out.old at (answer_text (meaning a)) out.new result }
+fn put_answer<E: Numbered>(out: &mut [u8], at: usize, a: Result<Answer, E>) -> usize
+    requires { Room out.old at (answer_text (meaning_by E.as_number a)) }
+    ensures { Wrote out.old at (answer_text (meaning_by E.as_number a)) out.new result }
 {
     match a {
         Ok(x) => put_taken(out, at, x),
@@ -93,15 +92,16 @@ fn put_answer(out: &mut [u8], at: usize, a: Result<Answer, Refusal>) -> usize
 }
 
 // "per action its place, kind and answer"
-pub fn put_action_line(
+pub fn put_action_line<E: Numbered>(
     out: &mut [u8],
     at: usize,
     place: u32,
     kind: u32,
-    a: Result<Answer, Refusal>,
+    a: Result<Answer, E>,
 ) -> usize
-    requires { Room out.old at (action_line place (kind_only kind) (meaning a)) }
-    ensures { Wrote out.old at (action_line place (kind_only kind) (meaning a)) out.new result }
+    requires { Room out.old at (action_line place (kind_only kind) (meaning_by E.as_number a)) }
+    ensures { Wrote out.old at (action_line place (kind_only kind) (meaning_by E.as_number a))
+        out.new result }
 {
     let after_place = text::put_decimal(out, at, place);
     let after_kind = text::put_number(out, after_place, kind);
@@ -161,17 +161,18 @@ fn taken_len(a: Answer) -> usize
     }
 }
 
-fn answer_len(a: Result<Answer, Refusal>) -> usize
-    ensures { Sized (answer_text (meaning a)) max_answer result }
+fn answer_len<E: Numbered>(a: Result<Answer, E>) -> usize
+    ensures { Sized (answer_text (meaning_by E.as_number a)) max_answer result }
 {
     match a {
         Ok(x) => taken_len(x),
-        Err(why) => 8 + text::last_len(u32::from(why)),
+        Err(why) => 8 + text::last_len(why.to_number()),
     }
 }
 
-pub fn action_line_len(place: u32, kind: u32, a: Result<Answer, Refusal>) -> usize
-    ensures { Sized (action_line place (kind_only kind) (meaning a)) max_line result }
+pub fn action_line_len<E: Numbered>(place: u32, kind: u32, a: Result<Answer, E>) -> usize
+    ensures { Sized (action_line place (kind_only kind) (meaning_by E.as_number a)) max_line
+        result }
 {
     text::decimal_len(place) + 1 + text::decimal_len(kind) + answer_len(a)
 }

@@ -1,7 +1,7 @@
 // The refusals, as the C header names them, each with its number (01, "Refused because of the input", "Refused because of the
 // state"; specs/RefusalNumbers).
 
-ghost use Rattle.std.specs.Prelude.{◌≡◌};
+ghost use Rattle.std.specs.Prelude.{◌≡◌, ℕ};
 ghost use Rattle.model.specs.RefusalNumbers.{number, refused_by};
 
 // A condition under which a call is refused.
@@ -57,6 +57,31 @@ impl From<Refusal> for u32 {
 
     fn from(why: Refusal) -> u32 {
         why as u32
+    }
+}
+
+// What refuses a call: a refusal of the code, or any number that is given for one.
+pub trait Numbered: Copy {
+    // the number that C and the listing are given for it
+    ghost as_number: { Self → ℕ };
+
+    fn to_number(self) -> u32
+        ensures { result ≡ as_number self };
+}
+
+impl Numbered for Refusal {
+    ghost as_number = { number };
+
+    fn to_number(self) -> u32 {
+        u32::from(self)
+    }
+}
+
+impl Numbered for u32 {
+    ghost as_number = { λ n. n };
+
+    fn to_number(self) -> u32 {
+        self
     }
 }
 

@@ -10,11 +10,11 @@ use Rattle.answer.proofs.plain_page.Goals as goal
 
 pub returns-in-Ok : goal.returns-in-Ok
 unfolding plain_page page_of
-returns-in-Ok c =
+returns-in-Ok g c =
     let margin = c.in-Ok.p.margin in
     let e : c.word.result ≡ word margin = c.word.ensures ∙ ap word (to_z-of_z {w = w32} {z = margin} (record { sfits = search rules })) in
     rw c.in-Ok.is (record { number = c.taken.ensures.number; values = c.taken.ensures.values ∙ cc e })
 
 pub returns-in-Err : goal.returns-in-Err
 unfolding plain_page
-returns-in-Err c = rw c.in-Err.is (record { number = c.refused.ensures.number; values = c.refused.ensures.values })
+returns-in-Err g c = rw c.in-Err.is (record { number = c.refused.ensures.number; values = c.refused.ensures.values })
