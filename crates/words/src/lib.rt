@@ -1,5 +1,5 @@
-// Refusals "because of the input", 12 to 16 and 41: those of a kind by the table of kinds, those of an opening, and how two
-// refusals come in turn. For the crates of this repository: a `requires` is met by each caller's proof.
+// Refusals "because of the input", 12 to 16 and 41: those of a kind by the table of kinds, those of an opening, and how a
+// condition refuses. For the crates of this repository: a `requires` is met by each caller's proof.
 
 #![tactic(auto)]
 
