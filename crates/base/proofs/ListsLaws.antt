@@ -1,17 +1,19 @@
 -- Laws of lists: what they have, those of their elements that pass a test, rising lists.
 -- Assumes nothing.
-use Prim.Native.Nat.{ℕ, zero, suc, ◌<◌, ◌≤◌}
+use Prim.Native.Nat.{ℕ, zero, suc, ◌+◌, ◌<◌, ◌≤◌}
 use native.Mathlib.Nat.{not-suc-le-zero, le_of_suc-le-suc}
+use native.Mathlib.Numerals.{add-one}
 use mathlib.Core.Path.{◌≡◌, refl, sym, ap, ◌∙◌, subst}
 use mathlib.Core.Bool.{true, false, true≢false, false≢true, Bool, ◌&&◌, ◌||◌, and-false, and-eq-true_iff}
 use mathlib.Core.List.{List, [], ◌∷◌, ◌++◌}
 use lib.Dec.{eqb, ltb}
-use lib.ListN.{length, get_or}
+use lib.ListN.{length, get_or, drop}
+use lib.Seq.{drop-cons}
 use borrow.Author.Tests.{eqb-true, eq-eqb, ltb-true, lt-ltb}
 use native.Mathlib.Omega.{arith}
 use mathlib.Core.Logic.{⊎_elim, ◌↔◌, ◌⊎◌, inl, inr}
 use Rattle.std.specs.List.{list_all}
-use Rattle.base.specs.Lists.{has, Each, filter, rising, bit, all, nth, rest, is_empty}
+use Rattle.base.specs.Lists.{has, Each, filter, rising, bit, count, all, nth, rest, is_empty}
 use Rattle.base.proofs.Bools.{by_cases, or_cases, and_both, or_left, or_right, and-true}
 
 -- ## What a list has
@@ -140,6 +142,19 @@ unfolding all
 get-all p [] f = refl
 get-all p (x ∷ xs) f = and-true (p x) (all p xs) (f 0) (get-all p xs (λ i. f (suc i)))
 
+-- a walk over a list: the elements from i on
+pub all_from : (p : ℕ → Bool) (xs : List ℕ) (i : ℕ) → i < length xs → all p (drop i xs) ≡ p (get_or xs i 0) && all p (drop (i + 1) xs)
+unfolding all
+all_from p xs i h = ap (all p) (drop-cons xs i 0 h) ∙ ap (λ (j : ℕ). p (get_or xs i 0) && all p (drop j xs)) (sym (add-one i))
+
+-- no element past the end
+pub all_past : (p : ℕ → Bool) (xs : List ℕ) (i : ℕ) → length xs ≤ i → all p (drop i xs) ≡ true
+unfolding all
+all_past p [] zero h = refl
+all_past p [] (suc i) h = refl
+all_past p (x ∷ xs) zero h = absurd (not-suc-le-zero h)
+all_past p (x ∷ xs) (suc i) h = all_past p xs i (le_of_suc-le-suc h)
+
 -- as an iterator's `all` tells it
 pub list_all-all : (p : ℕ → Bool) (xs : List ℕ) → list_all p xs ≡ all p xs
 unfolding all
@@ -209,6 +224,20 @@ rising-append a m (x ∷ xs) ys le top r s =
 pub bit-small : (t : Bool) → bit t ≤ 1
 bit-small true = omega arith
 bit-small false = omega arith
+
+-- a rising list has each number once, or not at all
+pub rising-once : (a : ℕ) (xs : List ℕ) → rising a xs ≡ true → (x : ℕ) → count xs x ≡ bit (has xs x)
+unfolding count has
+rising-once a [] r x = refl
+rising-once a (y ∷ ys) r x = go (eqb x y) refl (has ys x) refl (rising-once y ys ((rising-cons a y ys).0 r).1 x)
+  where
+    above : has ys x ≡ true → y < x
+    above = rising-above y ys ((rising-cons a y ys).0 r).1 x
+
+    go : (t : Bool) → eqb x y ≡ t → (u : Bool) → has ys x ≡ u → count ys x ≡ bit (has ys x) → count (y ∷ ys) x ≡ bit (has (y ∷ ys) x)
+    go true e true f ih = absurd (omega (arith, eqb-true x y e, above f))
+    go true e false f ih = rw (has_here, ih, f) (omega (arith, ap bit e))
+    go false e u f ih = rw (has_there, ih) (omega (arith, ap bit e))
 
 -- ## Parts of a list
 

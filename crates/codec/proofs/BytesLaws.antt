@@ -2,9 +2,9 @@
 use Prim.Native.Nat.{ℕ, zero, suc, ◌+◌, ◌-◌, ◌≤◌, ◌<◌}
 use native.Mathlib.Omega.{arith}
 use native.Mathlib.Nat.{add-zero, add-suc, suc-add}
-use native.Mathlib.Numerals.{add-one}
+use native.Mathlib.Numerals.{add-one, add-two, add-three}
 use mathlib.Core.Path.{◌≡◌, refl, sym, ap, ap₂, ◌∙◌}
-use mathlib.Core.Bool.{Bool, true, ◌&&◌, and-eq-true_iff, true≢false}
+use mathlib.Core.Bool.{Bool, true, ◌&&◌, and-eq-true_iff, and-true, and_assoc, true≢false}
 use mathlib.Core.List.{List, [], ◌∷◌, ◌++◌, append_assoc}
 use lib.Dec.{eqb, lit<}
 use lib.ListN.{length, get_or, take, drop, set, length-append, length-take, length-drop, length-replicate}
@@ -62,6 +62,11 @@ drop-part o n p b h =
     let l : length (drop p (part o n b)) ≤ n - p = simp (length-drop, length-take) (omega arith) in
     sym (take_all (n - p) (drop p (part o n b)) l) ∙ part-part o n p (n - p) b (omega arith)
 
+pub all_zero-snoc : (b : List ℕ) (x : ℕ) → all_zero (b ++ (x ∷ [])) ≡ all_zero b && eqb x 0
+unfolding all_zero
+all_zero-snoc [] x = and-true (eqb x 0)
+all_zero-snoc (y ∷ ys) x = ap (λ (t : Bool). eqb y 0 && t) (all_zero-snoc ys x) ∙ sym (and_assoc (eqb y 0) (all_zero ys) (eqb x 0))
+
 -- a run of stores, and then another
 pub sets-append : (l : List ℕ) (o : ℕ) (xs ys : List ℕ) → sets l o (xs ++ ys) ≡ sets (sets l o xs) (o + length xs) ys
 sets-append l o [] ys = rw add-zero
@@ -69,6 +74,10 @@ sets-append l o (x ∷ xs) ys = rw (add-suc, ← suc-add) (sets-append (set l o 
 
 pub sets-snoc : (l : List ℕ) (o i : ℕ) (xs : List ℕ) (x : ℕ) → o + length xs ≡ i → set (sets l o xs) i x ≡ sets l o (xs ++ (x ∷ []))
 sets-snoc l o i xs x h = ap (λ (j : ℕ). set (sets l o xs) j x) (sym h) ∙ sym (sets-append l o xs (x ∷ []))
+
+pub sets-four : (l : List ℕ) (o w x y z : ℕ)
+    → set (set (set (set l o w) (o + 1) x) (o + 2) y) (o + 3) z ≡ sets l o (w ∷ x ∷ y ∷ z ∷ [])
+sets-four l o w x y z = rw (add-one, add-two, add-three)
 
 -- the first n bytes of s put in at o
 pub paste-sets : (b : List ℕ) (o : ℕ) (s : List ℕ) (n : ℕ) → o + n ≤ length b → n ≤ length s → paste b o s n ≡ sets b o (take n s)
@@ -170,6 +179,13 @@ same-eq (x ∷ xs) [] h = absurd (true≢false (sym h))
 same-eq (x ∷ xs) (y ∷ ys) h =
     let p = (and-eq-true_iff (eqb x y) (same_bytes xs ys)).0 h in
     ap₂ ◌∷◌ (eqb-true x y p.0) (same-eq xs ys p.1)
+
+pub same-snoc : (a b : List ℕ) (x y : ℕ) → length a ≡ length b → same_bytes (a ++ (x ∷ [])) (b ++ (y ∷ [])) ≡ same_bytes a b && eqb x y
+unfolding same_bytes
+same-snoc [] [] x y e = and-true (eqb x y)
+same-snoc [] (v ∷ vs) x y e = absurd (omega arith)
+same-snoc (u ∷ us) [] x y e = absurd (omega arith)
+same-snoc (u ∷ us) (v ∷ vs) x y e = ap (λ (t : Bool). eqb u v && t) (same-snoc us vs x y (omega arith)) ∙ sym (and_assoc (eqb u v) (same_bytes us vs) (eqb x y))
 
 -- as `==` on slices tells it
 pub same-pointwise : (a b : List ℕ) → pointwise eqb a b ≡ same_bytes a b

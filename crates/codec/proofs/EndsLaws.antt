@@ -1,7 +1,7 @@
 -- Laws of specs/Ends. Assumes nothing.
-use Prim.Native.Nat.{ℕ, zero, suc, ◌<◌}
+use Prim.Native.Nat.{ℕ, zero, suc, ◌-◌, ◌<◌}
 use native.Mathlib.Omega.{arith}
-use mathlib.Core.Path.{◌≡◌, refl, sym, ap}
+use mathlib.Core.Path.{◌≡◌, refl, sym, ap, ◌∙◌}
 use mathlib.Core.List.{List, [], ◌∷◌}
 use mathlib.Core.Option.{none, some}
 use lib.ListN.{length, get_or, take, drop}
@@ -23,6 +23,18 @@ module _ (l : ByteList) (full : length l.places ≡ list_capacity) where
       go (x ∷ xs) zero h k = absurd (omega arith)
       go (x ∷ xs) (suc n) h k = refl
 
+-- without the first byte: the later ones, one place earlier
+pub popped : (xs : List ℕ) (n : ℕ) → 0 < n → take (n - 1) (drop 1 xs) ≡ drop 1 (take n xs)
+popped xs zero h = absurd (omega arith)
+popped [] (suc n) h = let e : suc n - 1 ≡ n = omega arith in ap (λ (m : ℕ). take m []) e ∙ none-taken n
+  where
+    none-taken : (n : ℕ) → ◌≡◌ {A = List ℕ} (take n []) []
+    none-taken zero = refl
+    none-taken (suc n) = refl
+popped (x ∷ xs) (suc n) h =
+    let e : suc n - 1 ≡ n = omega arith in
+    ap (λ (m : ℕ). take m xs) e
+
 -- ## What the first element tells of the list
 
 no_value : {x : ℕ} → none ≡ some x → ⊥
@@ -37,3 +49,11 @@ pub first-stands : (xs : List ℕ) (x : ℕ) → first_of xs ≡ some x → xs �
 unfolding first_of
 first-stands [] x e = absurd (no_value e)
 first-stands (y ∷ ys) x e = let q : y ≡ x = cc in ap (λ (z : ℕ). z ∷ ys) q
+
+pub list-waits : (l : ByteList) (x : ℕ) → first_of (items l) ≡ some x → 0 < l.len
+unfolding first_of
+list-waits l x e = go l.len e
+  where
+    go : (n : ℕ) → first_of (take n l.places) ≡ some x → 0 < n
+    go zero e = absurd (no_value e)
+    go (suc n) e = omega arith

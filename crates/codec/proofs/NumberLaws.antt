@@ -125,6 +125,16 @@ module _ (off lo hi : ℕ) where
 pub word-lawful : Lawful word
 word-lawful = number-lawful 4 0 0 (2 ^ 32 - 1) (lit≤ tt) (lit< tt)
 
+pub word-decode : (b : List ℕ) → word.decode b ≡ value b
+unfolding number
+word-decode b = omega arith
+
+pub word-encode : (v : ℕ) → word.encode v ≡ digits 4 v
+unfolding number
+word-encode v =
+    let e : v - 0 ≡ v = omega arith in
+    ap (digits 4) e
+
 pub byte-lawful : (lo hi : ℕ) → hi < 256 → Lawful (byte lo hi)
 byte-lawful lo hi h = number-lawful 1 0 lo hi (omega arith) (omega arith)
 
@@ -155,6 +165,12 @@ unfolding flag mapped
 flag-decode o b h =
     let e : get_or b o 0 + 0 ≡ get_or b o 0 = omega arith in
     ap (eqb 1) (number-decode 0 0 1 o b h ∙ e)
+
+pub flag-valid : (o : ℕ) (b : List ℕ) → o < length b → flag.valid (part o 1 b) ≡ between 0 1 (get_or b o 0)
+unfolding flag mapped
+flag-valid o b h =
+    let e : get_or b o 0 + 0 ≡ get_or b o 0 = omega arith in
+    number-valid 0 0 1 o b h ∙ ap (between 0 1) e
 
 pub flag-encode : (x : Bool) → flag.encode x ≡ bit x ∷ []
 unfolding flag mapped

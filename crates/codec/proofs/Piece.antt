@@ -54,10 +54,27 @@ module _ {A B : Type 0} {m n : ℕ} {F : Form A m} {P : Form B n} {o : ℕ} {on 
     pub read-bytes : View F P o on get → on (F.decode b) → part o n b ≡ P.encode (get (F.decode b))
     read-bytes W k = ap (part o n) (sym (K.forth b s v)) ∙ read W (F.decode b) (K.sound b s v) k
 
+    pub read-value : View F P o on get → on (F.decode b) → P.decode (part o n b) ≡ get (F.decode b)
+    read-value W k = ap P.decode (read-bytes W k) ∙ L.back (get (F.decode b)) (W.got (F.decode b) (K.sound b s v) k)
+
+    pub read-valid : View F P o on get → on (F.decode b) → P.valid (part o n b) ≡ true
+    read-valid W k = ap P.valid (read-bytes W k) ∙ L.accepts (get (F.decode b)) (W.got (F.decode b) (K.sound b s v) k)
+
     pub write_bytes : {put : A → B → A} → Piece F P o on get put → (x : B) → on (F.decode b) → P.ok x
         → sets b o (P.encode x) ≡ F.encode (put (F.decode b) x)
     write_bytes Q x k g =
         ap (λ (z : List ℕ). sets z o (P.encode x)) (sym (K.forth b s v)) ∙ write Q (F.decode b) x (K.sound b s v) k g
+
+    pub write-value : {put : A → B → A} → Piece F P o on get put → (x : B) → on (F.decode b) → P.ok x
+        → F.decode (sets b o (P.encode x)) ≡ put (F.decode b) x
+    write-value {put} Q x k g =
+        ap F.decode (write_bytes Q x k g) ∙ K.back (put (F.decode b) x) (Q.kept (F.decode b) x (K.sound b s v) k g)
+
+    -- the changed bytes are valid again
+    pub write-valid : {put : A → B → A} → Piece F P o on get put → (x : B) → on (F.decode b) → P.ok x
+        → F.valid (sets b o (P.encode x)) ≡ true
+    write-valid {put} Q x k g =
+        ap F.valid (write_bytes Q x k g) ∙ K.accepts (put (F.decode b) x) (Q.kept (F.decode b) x (K.sound b s v) k g)
 
   -- a piece lies within the whole
   pub room : Lawful F → View F P o on get → (a : A) → F.ok a → on a → o + n ≤ m
@@ -225,6 +242,17 @@ module _ {A C : Type 0} {m n : ℕ} {F : Form A m} {P : Form C n} {o : ℕ} {on 
         offset = λ a h k. W.offset a h.0 k;
         got = λ a h k. W.got a h.0 k;
         split = λ a h k. W.split a h.0 k;
+      }
+
+  -- to put a value is to keep the guard, where it holds of the changed value
+  pub guarded-piece : {put : A → C → A} → Piece F P o on get put → (p : A → Bool)
+      → ((a : A) (c : C) → F.ok a → p a ≡ true → on a → P.ok c → p (put a c) ≡ true) → Piece (guarded F p) P o on get put
+  unfolding guarded guarded-view
+  guarded-piece D p q =
+      record {
+        view = guarded-view p D.view;
+        kept = λ a c h k g. (D.kept a c h.0 k g, q a c h.0 h.1 k g);
+        stores = λ a c h k g. D.stores a c h.0 k g;
       }
 
   -- the same piece, its offset said in another way

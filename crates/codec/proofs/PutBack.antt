@@ -62,6 +62,17 @@ either o n j = go (ltb j o) refl (ltb j (o + n)) refl
     go false f true e = inl (ltb-false j o f, ltb-true j (o + n) e)
     go false f false e = inr (inr (ltb-false j (o + n) e))
 
+-- two writes do so
+pub written-covers : (b : List ℕ) (o u : ℕ) (x y : List ℕ) → o + length x ≤ length b → u + length y ≤ length b
+    → Covers b (sets (sets b o x) u y) o (length x) u (length y)
+written-covers b o u x y one two =
+    record {
+      first = one;
+      second = two;
+      long = length-sets (sets b o x) u y ∙ length-sets b o x;
+      same = λ j far away. sets-outside y (sets b o x) u j away ∙ sets-outside x b o j far;
+    }
+
 pub restored : (b c : List ℕ) (o n u m : ℕ) → Covers b c o n u m → sets (sets c o (part o n b)) u (part u m b) ≡ b
 restored b c o n u m v =
     let d = sets c o (part o n b) in

@@ -2,7 +2,7 @@
 use Prim.Native.Nat.{ℕ, ◌^◌, ◌<◌}
 use native.Mathlib.Omega.{arith}
 use mathlib.Core.Path.{◌≡◌, refl, sym, ap, ◌∙◌}
-use mathlib.Core.Bool.{Bool, true, false, ◌||◌}
+use mathlib.Core.Bool.{Bool, true, false}
 use mathlib.Core.List.{List}
 use lib.Dec.{eqb, ltb}
 use lib.ListN.{length}
@@ -10,16 +10,27 @@ use borrow.Author.Tests.{eqb-true, eqb-false, lt-ltb}
 use Rattle.base.specs.Chains.{refuse, ◌⨾◌}
 use Rattle.base.proofs.Bools.{by_cases}
 use Rattle.base.proofs.ChainsLaws.{chain-assoc}
-use Rattle.model.specs.Opening.{open_refusal}
-use Rattle.model.specs.RunFile.{FileOpening, opening_in, max_actions, RunText, distance}
+use Rattle.model.specs.RunFile.{read_text, Reading, read_refusal, read_file, ReadAnswer, read_answer, FileOpening, RunText, distance}
 use Rattle.model.specs.RunFile.{WriteAnswer, Writing, write_refusal, write_file, plain_written}
 use Rattle.std.specs.Prelude.{Result}
 use Rattle.model.specs.declared.refusals.Refusal.{Refusal}
 use Rattle.runfile.specs.Answers.{written_meaning}
 use Rattle.runfile.proofs.Cases.{written_one}
 use Rattle.runfile.proofs.Openings.{fits, least}
-use Rattle.runfile.proofs.WriteLaws.{write-refused, write-run, written-when}
+use Rattle.runfile.proofs.WriteLaws.{early, eighteen-last, write-refused, write-run, written-when}
 use Rattle.calls.specs.RunsLent.{written_words}
+
+-- a refused file has a number
+pub read_number : (f : List ℕ) (why : ℕ) → read_answer f (read_file f) ≡ ReadAnswer.refused why → why ≡ 0 → ⊥
+unfolding read_answer read_file
+read_number f why = go (eqb (read_refusal f) 0) refl
+  where
+    answer : Bool → ReadAnswer
+    answer t = read_answer f (elim t [ true ↦ Reading.text (read_text f) | false ↦ Reading.refused (read_refusal f) ])
+
+    go : (t : Bool) → eqb (read_refusal f) 0 ≡ t → answer t ≡ ReadAnswer.refused why → why ≡ 0 → ⊥
+    go true e r z = let one : ◌≡◌ {A = ℕ} 0 1 = cc in omega arith
+    go false e r z = eqb-false (read_refusal f) 0 e (cc)
 
 -- the model's answer y has the number and values of r, which is the case s
 pub written_is : {r s : Result ℕ Refusal} {y : WriteAnswer} → plain_written (written_meaning r) ≡ plain_written y → r ≡ s → y ≡ written_meaning s
@@ -37,15 +48,19 @@ module _ (x : RunText) (b : List ℕ) where
       (λ t. ap (λ (z : Writing). (written_words z.answer).number) (write-run x b (eqb-true number 0 t)) ∙ sym (eqb-true number 0 t))
       (λ t. ap (λ (z : Writing). (written_words z.answer).number) (write-refused x b (eqb-false number 0 t)))
 
-  -- a refused write leaves the slice
-  pub refused-write : (why : ℕ) → (write_file x b).answer ≡ WriteAnswer.refused why → (write_file x b).bytes ≡ b
+  -- a refused write has a number, and leaves the slice
+  pub refused-write : (why : ℕ) → (write_file x b).answer ≡ WriteAnswer.refused why → (why ≡ 0 → ⊥) × ((write_file x b).bytes ≡ b)
   refused-write why r =
       by_cases (eqb number 0)
       (λ t.
       let w = ap (λ (z : Writing). z.answer) (write-run x b (eqb-true number 0 t)) in
       let one : ◌≡◌ {A = ℕ} 0 1 = cc in
       absurd (omega arith))
-      (λ t. ap (λ (z : Writing). z.bytes) (write-refused x b (eqb-false number 0 t)))
+      (λ t.
+      let w = write-refused x b (eqb-false number 0 t) in
+      let a : WriteAnswer.refused why ≡ WriteAnswer.refused number = sym r ∙ ap (λ (z : Writing). z.answer) w in
+      let same : why ≡ number = cc in
+      (λ z. eqb-false number 0 t (sym same ∙ z), ap (λ (z : Writing). z.bytes) w))
 
   -- the length of a written run is one word
   pub write-length : (n : ℕ) → (write_file x b).answer ≡ WriteAnswer.written n → n < 2 ^ 32
@@ -56,17 +71,6 @@ module _ (x : RunText) (b : List ℕ) where
   -- a slice that is too short for any run is not written
   pub write-nothing : (n : ℕ) → length b < 32 → (write_file x b).answer ≡ WriteAnswer.written n → ⊥
   write-nothing n l e = omega (arith, least x.opening.third (length x.actions), (written-when x b n e).allows.fits)
-
--- 16, 41 and 19, which come before 18
-abbrev early : FileOpening → ℕ → ℕ
-early o c = open_refusal (opening_in o) ⨾ refuse (ltb 1 o.third || ltb (max_actions o.third) c) 19
-
-eighteen-last : (o : FileOpening) (c room : ℕ) → write_refusal o c room ≡ early o c ⨾ refuse (ltb room (distance o.third c)) 18
-unfolding write_refusal
-eighteen-last o c room =
-    sym
-    (chain-assoc (open_refusal (opening_in o)) (refuse (ltb 1 o.third || ltb (max_actions o.third) c) 19)
-    (refuse (ltb room (distance o.third c)) 18))
 
 -- 18 or none, then 18
 last : (t : Bool) → refuse t 18 ⨾ 18 ≡ 18

@@ -1,6 +1,6 @@
 -- A number and the kind that it names: what is computed of each element of the list of kinds holds of each number, and past
 -- the last kind there is none. Assumes nothing.
-use Prim.Native.Nat.{ℕ, zero, suc, ◌+◌, ◌≤◌, ◌<◌}
+use Prim.Native.Nat.{ℕ, zero, suc, ◌+◌, ◌-◌, ◌≤◌, ◌<◌}
 use native.Mathlib.Omega.{arith}
 use mathlib.Core.Path.{◌≡◌, refl, ap, ap₂, subst}
 use mathlib.Core.Logic.{⊎_elim}
@@ -71,3 +71,15 @@ names-kind k low high = go (kind_of k) refl
     go no_kind e =
         let f : (eqb k 0 || is_kind (kind_of k)) ≡ false = ap₂ (λ s t. s || t) (ne_eqb k 0 (λ z. omega arith)) (ap is_kind e) in
         absurd (not-both tested f)
+
+-- k is none of 1 to n: what the last arm of a `match` over the kinds knows
+abbrev pub Passed : ℕ → ℕ → Type 0
+Passed k zero = Unit {0}
+Passed k (suc n) = Passed k n × (k ≡ suc n → ⊥)
+
+past : (n k : ℕ) → 1 ≤ k → Passed k n → n < k
+past zero k low p = omega arith
+past (suc n) k low p = omega (arith, past n k low p.0, p.1)
+
+pub last-left : (k : ℕ) → 1 ≤ k → k ≤ last_kind → Passed k (last_kind - 1) → k ≡ last_kind
+last-left k low high p = omega (arith, past (last_kind - 1) k low p)

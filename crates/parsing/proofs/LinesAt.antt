@@ -1,18 +1,22 @@
 -- Words taken off a line one after another, and what they come to. Assumes nothing.
-use Prim.Native.Nat.{ℕ, ◌-◌, min}
+use Prim.Native.Nat.{ℕ, zero, suc, ◌-◌, ◌≤◌, min}
 use mathlib.Core.Path.{◌≡◌, refl, sym, ap, ap₂, subst, ◌∙◌}
 use mathlib.Core.Bool.{Bool, true, false, not, ◌&&◌}
 use mathlib.Core.List.{List, [], ◌∷◌}
-use lib.Dec.{eqb}
+use lib.Dec.{eqb, leb}
 use lib.ListN.{drop}
-use borrow.Author.Tests.{eqb-true, eq-eqb, ne_eqb, not-false}
+use borrow.Author.Tests.{eq-eqb, ne_eqb, le-leb, leb-false, not-true, not-false, eqb-true}
 use Rattle.std.proofs.Common.{Option, Some, None, arith}
 use Rattle.std.specs.Option.{MatchOption, unwrap_or}
 use Rattle.std.specs.Bool.{then_some}
 use Rattle.base.specs.Lists.{rest, is_empty}
+use Rattle.base.specs.Numbers.{within}
+use Rattle.base.proofs.Bools.{by_cases, and-true, not-both}
+use Rattle.base.proofs.NumbersLaws.{within_both}
 use Rattle.codec.specs.Bytes.{part, same_bytes}
 use Rattle.codec.proofs.BytesLaws.{same_refl}
-use Rattle.model.specs.Kinds.{kind_of, kinds, Uses, uses}
+use Rattle.model.specs.Kinds.{no_kind, kinds, last_kind, kind_of, Uses, uses}
+use Rattle.model.proofs.KindLaws.{past-last}
 use Rattle.model.specs.declared.kinds.Kind.{Kind}
 use Rattle.model.specs.KindNumbers.{kind_meaning, kind_number}
 use Rattle.model.proofs.KindNumbersLaws.{number-names}
@@ -336,12 +340,28 @@ pub line-raw : (k : ℕ) (fs : List (List ℕ)) → (k ≡ hall_number → ⊥) 
 unfolding line_from
 line-raw k fs h e = rw (ne_eqb k hall_number h, line_from, eq-eqb k raw_number e)
 
+pub no_kind_lem : (k : ℕ) → not (within 1 last_kind k) ≡ true → kind_of k ≡ no_kind
+unfolding within kind_of kinds
+no_kind_lem zero e = refl
+no_kind_lem (suc k) e =
+    by_cases (leb (suc k) last_kind)
+    (λ t. absurd (not-both (and-true (leb 1 (suc k)) (leb (suc k) last_kind) (le-leb 1 (suc k) (omega arith)) t) (not-true (leb 1 (suc k) && leb (suc k) last_kind) e)))
+    (λ f. past-last (suc k) (leb-false (suc k) last_kind f))
+
+pub kind-range : (k : ℕ) → not (within 1 last_kind k) ≡ false → (1 ≤ k) × (k ≤ last_kind)
+kind-range k e = within_both 1 last_kind k (not-false (within 1 last_kind k) e)
+
 pub line-kind : (κ : Kind) (fs : List (List ℕ)) → line_from (kind_number κ) fs ≡ kind_line (kind_number κ) (uses (kind_meaning κ)) fs
 unfolding line_from
 line-kind κ fs =
     let k = kind_number κ in
     let below = (kind-named k (kind_meaning κ) (number-names κ)).below in
     rw (ne_eqb k hall_number (λ e. omega (arith, below)), line_from, ne_eqb k raw_number (λ e. omega (arith, below)), number-names κ)
+
+module _ (k : ℕ) (fs : List (List ℕ)) (h : k ≡ hall_number → ⊥) (r : k ≡ raw_number → ⊥) where
+  pub line-none : kind_of k ≡ no_kind → line_from k fs ≡ wrong 0
+  unfolding line_from
+  line-none e = rw (ne_eqb k hall_number h, line_from, ne_eqb k raw_number r, e)
 
 pub line-blank : (bs : List ℕ) → is_empty (fields_in bs) ≡ true → line_of bs ≡ blank
 unfolding line_of

@@ -2,14 +2,16 @@
 use Prim.Native.Nat.{ℕ, zero, suc, ◌^◌, ◌≤◌, ◌<◌}
 use native.Mathlib.Omega.{arith}
 use mathlib.Core.Path.{◌≡◌, refl, sym, ap, ◌∙◌}
-use mathlib.Core.Bool.{Bool, true, false, ◌&&◌}
+use mathlib.Core.Bool.{Bool, true, false, not, ◌&&◌}
 use mathlib.Core.List.{List, [], ◌∷◌, ◌++◌, map}
 use lib.Dec.{leb}
 use lib.ListN.{length, get_or, length-append}
-use borrow.Author.Tests.{leb-true}
-use Rattle.base.proofs.Bools.{by_cases, and_both}
+use borrow.Author.Tests.{le-leb, leb-true, leb-false}
+use Rattle.base.specs.Numbers.{within}
+use Rattle.base.proofs.Bools.{by_cases, not-both, and_both}
+use Rattle.base.proofs.NumbersLaws.{within_both}
 use Rattle.model.specs.Kinds as model
-use Rattle.model.specs.Kinds.{Use, unused, word, recorder, number, set, KindWord, kind, no_kind, kind_of, uses}
+use Rattle.model.specs.Kinds.{Use, unused, word, recorder, number, set, KindWord, kind, no_kind, kinds, kind_of, last_kind, uses}
 use Rattle.model.specs.declared.kinds.Kind.{Kind}
 use Rattle.model.specs.declared.refusals.Refusal.{Refusal}
 use Rattle.model.specs.KindNumbers.{kind_meaning, kind_number, Names}
@@ -19,6 +21,7 @@ use Rattle.std.specs.Result.{result_ok}
 use Rattle.std.specs.Bool.{then_some}
 use Rattle.model.specs.Call.{Words, words_of}
 use Rattle.model.specs.Listing.{decimal, summary-word}
+use Rattle.model.proofs.KindLaws.{past-last}
 use Rattle.words.specs.declared.Uses.{Uses}
 use Rattle.words.specs.Words.{use_of, uses_of}
 use Rattle.story.specs.Sets.{set_text}
@@ -27,6 +30,15 @@ use Rattle.story.specs.Printing.{can_tell, has_line, arg_fields, kind_fields, ra
 use Rattle.printing.specs.Lines.{spaced, kind_text, raw_text, TellsKind}
 use Rattle.printing.proofs.FieldsLaws.{spaced-append, line-closed, length_none, length-closed, length-spaced, number_short, numbers-short}
 use Rattle.printing.proofs.MembersLaws.{set-short}
+
+-- no kind has a number below 1 or past the last
+no_kind_lem : (k : ℕ) → not (within 1 last_kind k) ≡ true → kind_of k ≡ no_kind
+unfolding kind_of kinds within
+no_kind_lem zero e = refl
+no_kind_lem (suc k) e = by_cases (leb (suc k) last_kind) (λ t. absurd (not-both e (ap not (named t)))) (λ f. past-last (suc k) (leb-false (suc k) last_kind f))
+  where
+    named : leb (suc k) last_kind ≡ true → within 1 last_kind (suc k) ≡ true
+    named t = rw (le-leb 1 (suc k) (omega arith)) t
 
 -- ## Has it a line of its kind?
 
@@ -40,6 +52,12 @@ module _ (k r a b : ℕ) where
   unfolding has_line
   no_line (Ok κ) n e = absurd cc
   no_line (Err why) n e = rw (n.0, has_line)
+
+  -- a line is of a kind
+  pub line-kind : has_line (words_of k r a b) ≡ true → (1 ≤ k) × (k ≤ last_kind)
+  unfolding has_line
+  line-kind e =
+      by_cases (within 1 last_kind k) (λ t. within_both 1 last_kind k t) (λ f. absurd (not-both e (rw (no_kind_lem k (ap not f), has_line))))
 
   module _ (κ : Kind) (x : Result Kind Refusal) (named : Names k x) (is : result_ok x ≡ Some κ) where
     kind-is : (x : Result Kind Refusal) → Names k x → result_ok x ≡ Some κ → (kind_of k ≡ kind (kind_meaning κ)) × (kind_number κ ≡ k)
@@ -99,7 +117,7 @@ pub raw-parts : (w : Words) → raw_text w ≡ raw_word ++ (spaced (map decimal 
 unfolding raw_fields
 raw-parts w = line-closed raw_word (raw_fields w)
 
-with-line : (w : Words) → has_line w ≡ true → action_text w ≡ kind_text w
+pub with-line : (w : Words) → has_line w ≡ true → action_text w ≡ kind_text w
 unfolding action_text
 with-line w e = rw (e, action_text)
 

@@ -76,6 +76,12 @@ pub spaced-one : (f : List ℕ) → spaced (f ∷ []) ≡ 32 ∷ f
 unfolding spaced
 spaced-one f = ap (λ (l : List ℕ). 32 ∷ l) (append-nil f)
 
+-- four numbers
+pub four-parts : (w x y z : ℕ) → spaced (map decimal (w ∷ x ∷ y ∷ z ∷ [])) ≡ number_text w ++ (number_text x ++ (number_text y ++ number_text z))
+unfolding spaced
+four-parts w x y z =
+    ap (λ (l : List ℕ). number_text w ++ (number_text x ++ (number_text y ++ (32 ∷ l)))) (append-nil (decimal z))
+
 -- ## Lengths
 
 pub length_none : length (spaced []) ≡ 0

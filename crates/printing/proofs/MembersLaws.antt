@@ -1,6 +1,7 @@
 -- Laws of the text of a set. Assumes nothing.
 use Prim.Native.Nat.{ℕ, zero, suc, ◌+◌, ◌-◌, ◌*◌, ◌%◌, ◌^◌, ◌≤◌}
 use native.Mathlib.Omega.{arith}
+use native.Mathlib.Numerals.{add-one}
 use native.Mathlib.Nat.{add-zero, add-suc}
 use mathlib.Core.Path.{◌≡◌, sym, ap, subst, ◌∙◌}
 use mathlib.Core.Bool.{Bool, true, false}
@@ -37,6 +38,10 @@ module _ (m i : ℕ) where
   member-later h e f = rw (e, f, member_text) (ap (λ (l : List ℕ). 44 ∷ l) (digit i h))
 
 -- ## The members, one after the other
+
+pub members-next : (m i : ℕ) → members_text m (i + 1) ≡ members_text m i ++ member_text m (i + 1)
+unfolding members_text
+members-next m i = rw add-one
 
 pub members-upto : (m i : ℕ) → 1 ≤ i → members_text m i ≡ members_text m (i - 1) ++ member_text m i
 unfolding members_text

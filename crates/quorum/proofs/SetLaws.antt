@@ -11,9 +11,9 @@ use borrow.Author.Tests.{eqb-true, eqb-false}
 use native.Mathlib.Nat.{pow-succ', mod-eq_of_lt, mod-one}
 use mathlib.Core.Logic.{◌⊎◌, ⊎_elim}
 use lib.Arith.{mod-mul}
-use Rattle.base.specs.Lists.{filter, has, rising}
+use Rattle.base.specs.Lists.{bit, filter, has, rising, count}
 use Rattle.base.specs.Numbers.{up_to}
-use Rattle.base.proofs.ListsLaws.{filter-in, filter-out, filter-append, in-filter, rising-filter, has-head, has-filter}
+use Rattle.base.proofs.ListsLaws.{filter-in, filter-out, filter-append, in-filter, rising-filter, has-head, has-filter, rising-once}
 use Rattle.base.proofs.NumbersLaws.{has-up_to, up_to-range, rising-up_to}
 use Rattle.quorum.specs.Sets.{in_mask, members, mask}
 
@@ -89,6 +89,9 @@ members-nonempty n b h pos = go (members n b) refl
 pub rising-members : (n b : ℕ) → rising 0 (members n b) ≡ true
 unfolding members
 rising-members n b = rising-filter (in_mask b) 0 (up_to n) (rising-up_to n)
+
+pub members-once : (n b x : ℕ) → count (members n b) x ≡ bit (has (members n b) x)
+members-once n b = rising-once 0 (members n b) (rising-members n b)
 
 -- the bit of a recorder, of eight
 pub one_shifted : (i : ℕ) → i ≤ 8 → 1 * 2 ^ i % 4294967296 ≡ 2 ^ i

@@ -49,6 +49,9 @@ votes-agree row row' (suc n) s t f g =
     ∙ (rw (f (suc n) (omega arith) (omega arith), g (suc n) (omega arith) (omega arith), ih))
     ∙ sym (votes-more row' n t)
 
+pub votes-same : (row : ℕ → ℕ) (n : ℕ) (s t : ℕ → Bool) → Same n s t → votes row n s ≡ votes row n t
+votes-same row n s t = votes-agree row row n s t (λ k low high. refl)
+
 -- a margin by its two sums
 by-sums : {v v' w w' : ℕ} → v ≡ v' → w ≡ w' → sub_ℕ (2 * v) w ≡ sub_ℕ (2 * v') w'
 by-sums e f = ap₂ (λ (x y : ℕ). sub_ℕ (2 * x) y) e f

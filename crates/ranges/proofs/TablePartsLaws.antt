@@ -8,7 +8,7 @@ use mathlib.Core.List.{List, ◌∷◌}
 use lib.Dec.{leb, ltb, leb-zero}
 use lib.ListN.{length, get_or, take, drop}
 use lib.Seq.{drop-drop}
-use borrow.Author.Tests.{leb-true, lt-ltb, le-ltb}
+use borrow.Author.Tests.{leb-true, le-leb, lt-leb, lt-ltb, le-ltb}
 use Rattle.std.specs.Prelude.{Option, None, Some, MatchOption}
 use Rattle.std.specs.Option.{unwrap_or}
 use Rattle.std.specs.List.{AllWithin, HoldsAt, range_with_len}
@@ -33,7 +33,7 @@ use Rattle.store.specs.ViewForm.{Views, view_form, numbers_of, numbers_rise, vie
 use Rattle.store.specs.HallForm.{entries_form, recorders_form, row_form, network_form, queues_form, votes_form, body_form, after_size, fields, hall_fields}
 use Rattle.ranges.specs.TableParts.{view_numbers, view_at, Found, tables_in}
 use Rattle.ranges.proofs.Parts.{given-part, pair-part, given-value, byte-part}
-use Rattle.ranges.proofs.Loops.{cells_same, bounded-part, bounded-value}
+use Rattle.ranges.proofs.Loops.{cells_same, bounded-part, bounded-over, bounded-within, bounded-value}
 
 -- ## The formed views
 
@@ -154,6 +154,9 @@ module _ (n : ℕ) (b : List ℕ) (h : entries_at ≤ length b) where
   pub views-fail : (bounded (view_form n) max_views).valid (part views_at views_size b) ≡ false → (views_form n).valid (part views_at views_size b) ≡ false
   views-fail e = views-parts ∙ rw e
 
+  pub views-over : max_views < get_or b views_at 0 → (views_form n).valid (part views_at views_size b) ≡ false
+  views-over l = views-fail (bounded-over (view_form n) max_views views_at b h l)
+
   pub views-count : (views_form n).valid (part views_at views_size b) ≡ true → get_or b views_at 0 ≤ max_views
   views-count v =
       let t = (cells (view_form n) (get_or b views_at 0) max_views).valid (part view_cells (max_views * view_size) b) in
@@ -167,6 +170,11 @@ module _ (n : ℕ) (b : List ℕ) (h : entries_at ≤ length b) where
   pub views-created : get_or b views_at 0 ≤ max_views → ((views_form n).decode (part views_at views_size b)).0 ≡ view_numbers (get_or b views_at 0) view_cells b
   unfolding views_form mapped view_list guarded
   views-created l = created l
+
+  pub views-part : get_or b views_at 0 ≤ max_views → (views_form n).valid (part views_at views_size b)
+      ≡ (cells (view_form n) (get_or b views_at 0) max_views).valid (part view_cells (max_views * view_size) b) && rising 0 (view_numbers (get_or b views_at 0) view_cells b)
+  views-part l =
+      views-parts ∙ ap₂ ◌&&◌ (bounded-within (view_form n) max_views views_at b h l) (ap (rising 0) (created l))
 
   pub views-rise : (bounded (view_form n) max_views).valid (part views_at views_size b) ≡ true → get_or b views_at 0 ≤ max_views
       → (views_form n).valid (part views_at views_size b) ≡ rising 0 (view_numbers (get_or b views_at 0) view_cells b)
@@ -184,6 +192,13 @@ entries-part n b h =
     ∙ ap₂ (λ (t : Bool) (m : ℕ). t && (cells (entry_form n) m max_entries).valid (part entry_cells (max_entries * entry_size) b))
     (byte-part 0 max_entries entries_at b h ∙ ap (λ (t : Bool). t && leb c max_entries) (leb-zero c))
     (length-numbers 1 ((byte 0 max_entries).decode (part entries_at 1 b)) ∙ number-decode 0 0 max_entries entries_at b h ∙ e)
+
+pub entries_over : (n : ℕ) (b : List ℕ) → entries_at < length b → max_entries < get_or b entries_at 0 → (entries_form n).valid (part entries_at entries_size b) ≡ false
+entries_over n b h l = entries-part n b h ∙ rw (lt-leb (get_or b entries_at 0) max_entries l)
+
+pub entries-within : (n : ℕ) (b : List ℕ) → entries_at < length b → get_or b entries_at 0 ≤ max_entries
+    → (entries_form n).valid (part entries_at entries_size b) ≡ (cells (entry_form n) (get_or b entries_at 0) max_entries).valid (part entry_cells (max_entries * entry_size) b)
+entries-within n b h l = entries-part n b h ∙ rw (le-leb (get_or b entries_at 0) max_entries l)
 
 pub entries-bounded : (n : ℕ) (b : List ℕ) → recorders_at ≤ length b
     → (entries_form n).valid (part entries_at entries_size b) ≡ (bounded (entry_form n) max_entries).valid (part entries_at entries_size b)

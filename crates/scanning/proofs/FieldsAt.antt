@@ -55,6 +55,19 @@ fields-blank : (b : ℕ) (bs : List ℕ) → is_blank b ≡ true → fields_in (
 unfolding fields_in
 fields-blank b bs e = rw (blank-no-end b e, fields_in, e)
 
+-- a blank is passed over
+pub skip_step : (text : List ℕ) (i : ℕ) → i < length text → is_blank (get_or text i 0) ≡ true → fields_in (drop i text) ≡ fields_in (drop (i + 1) text)
+skip_step text i h e = ap fields_in (drop-step text i h) ∙ fields-blank (get_or text i 0) (drop (i + 1) text) e
+
+-- where a field ends: at a break, or at the end
+pub breaks-at : (text : List ℕ) (i : ℕ) → i < length text → is_break (get_or text i 0) ≡ true → breaks (drop i text) ≡ true
+unfolding breaks
+breaks-at text i h e = rw (drop-step text i h) e
+
+pub breaks-past : (text : List ℕ) (i : ℕ) → length text ≤ i → breaks (drop i text) ≡ true
+unfolding breaks
+breaks-past text i h = rw (drop_past text i h)
+
 -- what is passed over: blanks
 skip-all : (bs : List ℕ) (n : ℕ) → n ≤ length bs → ((k : ℕ) → k < n → is_blank (get_or bs k 0) ≡ true) → fields_in bs ≡ fields_in (drop n bs)
 skip-all bs zero h g = refl
@@ -190,11 +203,15 @@ spans text at from to s e = by_cases (ltb from to) some none
 
 -- ## The line's end
 
+pub line_on : (text : List ℕ) (i : ℕ) → i < length text → eqb (get_or text i 0) 10 ≡ false → i + line_length (drop i text) ≡ i + 1 + line_length (drop (i + 1) text)
+unfolding line_length
+line_on text i h e = rw (drop-step text i h, line_length, e) (omega arith)
+
 pub line-past : (bs : List ℕ) (n : ℕ) → length bs ≤ n → line_length (drop n bs) ≡ 0
 unfolding line_length
 line-past bs n h = rw (drop_past bs n h, line_length)
 
-line-over : (bs : List ℕ) (n : ℕ) → n < length bs → eqb (get_or bs n 0) 10 ≡ true → line_length (drop n bs) ≡ 1
+pub line-over : (bs : List ℕ) (n : ℕ) → n < length bs → eqb (get_or bs n 0) 10 ≡ true → line_length (drop n bs) ≡ 1
 unfolding line_length
 line-over bs n h e = rw (drop-step bs n h, line_length, e)
 

@@ -7,10 +7,10 @@ use mathlib.Core.Bool.{Bool, true, false, not, ◌&&◌}
 use mathlib.Core.List.{List, [], ◌∷◌}
 use lib.Dec.{eqb, leb, ltb}
 use lib.ListN.{length, drop, get_or}
-use borrow.Author.Tests.{ltb-false, both_ways, le-ltb, lt-ltb, le-leb, lt-leb, eq-eqb, ne_eqb}
+use borrow.Author.Tests.{leb-true, ltb-true, ltb-false, le-leb, lt-leb, eq-eqb, ne_eqb, both_ways, le-ltb, lt-ltb}
 use Rattle.base.specs.Lists.{rest, is_empty}
 use Rattle.base.specs.Numbers.{within}
-use Rattle.base.proofs.Bools.{by_cases, and-true}
+use Rattle.base.proofs.Bools.{by_cases, and_both, and-true}
 use Rattle.story.specs.Numbers.{Value, value, no_value, goes_on, with_digit, digits_from, number_of}
 use Rattle.quorum.specs.Sets.{in_mask}
 use Rattle.codec.specs.Bytes.{same_bytes}
@@ -50,6 +50,19 @@ in-range : (low high b : ℕ) → low ≤ b → b ≤ high → within low high b
 unfolding within
 in-range low high b h k = rw (le-leb low b h, le-leb b high k)
 
+-- what is known of a digit that a number goes on with
+pub record Digit (n b : ℕ) : Type 0 where
+  pub low : 48 ≤ b
+  pub high : b ≤ 57
+  pub fits : with_digit n b < 2 ^ 32
+
+pub goes-facts : (n b : ℕ) → goes_on n b ≡ true → Digit n b
+unfolding goes_on within
+goes-facts n b e =
+    let p = and_both (leb 48 b && leb b 57) (ltb (with_digit n b) (2 ^ 32)) e in
+    let q = and_both (leb 48 b) (leb b 57) p.0 in
+    record { low = leb-true 48 b q.0; high = leb-true b 57 q.1; fits = ltb-true (with_digit n b) (2 ^ 32) p.1 }
+
 -- ## Numbers
 
 -- a byte below or above the digits, and a digit
@@ -83,6 +96,13 @@ pub number-none : (f : List ℕ) → length f ≡ 0 → number_of f ≡ no_value
 unfolding number_of
 number-none [] h = refl
 number-none (b ∷ bs) h = absurd (omega arith)
+
+pub joins-range : (m b : ℕ) → joins m b ≡ true → (49 ≤ b) × (b ≤ 56)
+unfolding joins within
+joins-range m b e =
+    let p = and_both (leb 49 b && leb b 56) (not (in_mask m (b - 48))) e in
+    let q = and_both (leb 49 b) (leb b 56) p.0 in
+    (leb-true 49 b q.0, leb-true b 56 q.1)
 
 module _ (f : List ℕ) (n i : ℕ) where
   pub digits-on : i < length f → goes_on n (get_or f i 0) ≡ true → digits_from n (drop i f) ≡ digits_from (with_digit n (get_or f i 0)) (drop (i + 1) f)
@@ -121,6 +141,21 @@ two_steps : (f : List ℕ) → 2 ≤ length f → f ≡ get_or f 0 0 ∷ get_or 
 two_steps [] h = absurd (omega arith)
 two_steps (b ∷ []) h = absurd (omega arith)
 two_steps (b ∷ c ∷ bs) h = refl
+
+-- whether no byte is left
+pub left-none : (f : List ℕ) (i : ℕ) → i ≤ length f → is_empty (drop i f) ≡ eqb i (length f)
+unfolding is_empty
+left-none f i h = by_cases (ltb i (length f)) inside past
+  where
+    inside : ltb i (length f) ≡ true → is_empty (drop i f) ≡ eqb i (length f)
+    inside t =
+        let l = ltb-true i (length f) t in
+        ap is_empty (drop-step f i l) ∙ sym (ne_eqb i (length f) (λ e. omega arith))
+
+    past : ltb i (length f) ≡ false → is_empty (drop i f) ≡ eqb i (length f)
+    past t =
+        let l = ltb-false i (length f) t in
+        ap is_empty (drop_past f i l) ∙ sym (eq-eqb i (length f) (omega arith))
 
 empty_of : (l : List ℕ) → length l ≡ 0 → is_empty l ≡ true
 unfolding is_empty
@@ -180,6 +215,13 @@ members-short [] m h = refl
 members-short (b ∷ []) m h = refl
 members-short (b ∷ c ∷ bs) m h = absurd (omega arith)
 
+-- a field that is too short is no set
+pub set-short : (f : List ℕ) → length f < 2 → set_of f ≡ no_value
+unfolding set_of set_from members_from
+set-short [] h = refl
+set-short (b ∷ []) h = by_cases (eqb b 123) (λ e. rw (e, set_of)) (λ e. rw (e, set_of))
+set-short (b ∷ c ∷ bs) h = absurd (omega arith)
+
 -- a set in braces: `}` alone after the first, or members; or no set
 pub set-closed : (l : List ℕ) → l ≡ 125 ∷ [] → set_of (123 ∷ l) ≡ value 0
 unfolding set_of set_from is_empty
@@ -202,12 +244,26 @@ set-members [] h = refl
 set-members (b ∷ []) h = from_one b ∙ ap (λ (t : Bool). closed (t && true)) (ne_eqb b 125 (λ e. h (ap (λ (x : ℕ). x ∷ []) e)))
 set-members (b ∷ c ∷ bs) h = from_more b c bs
 
+set-opened : (b : ℕ) (bs : List ℕ) → eqb b 123 ≡ true → set_of (b ∷ bs) ≡ set_from bs
+unfolding set_of
+set-opened b bs e = rw (e, set_of)
+
+pub set_more : (f : List ℕ) → 2 < length f → eqb (get_or f 0 0) 123 ≡ true → set_of f ≡ members_from 0 (drop 1 f)
+set_more [] h e = absurd (omega arith)
+set_more (b ∷ []) h e = absurd (omega arith)
+set_more (b ∷ c ∷ []) h e = absurd (omega arith)
+set_more (b ∷ c ∷ d ∷ ds) h e = set-opened b (c ∷ d ∷ ds) e ∙ from_more c d ds
+
 pub set-unopened : (f : List ℕ) → ((l : List ℕ) → f ≡ 123 ∷ l → ⊥) → set_of f ≡ no_value
 unfolding set_of
 set-unopened [] h = refl
 set-unopened (b ∷ bs) h = rw (ne_eqb b 123 (λ e. h bs (ap (λ (x : ℕ). x ∷ bs) e)), set_of) refl
 
 -- ## Words
+
+-- a field of another length is not the word
+pub other_length : (w f : List ℕ) → (length f ≡ length w → ⊥) → same_bytes w f ≡ false
+other_length w f h = by_cases (same_bytes w f) (λ e. absurd (h (ap length (sym (same-eq w f e))))) (λ e. e)
 
 -- a field is a word, or another
 pub other_word : (f w : List ℕ) → (f ≡ w → ⊥) → same_bytes w f ≡ false

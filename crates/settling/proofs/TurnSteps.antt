@@ -3,7 +3,7 @@ use Prim.Native.Nat.{ℕ, suc, ◌+◌, ◌-◌, ◌≤◌, ◌<◌}
 use native.Mathlib.Omega.{arith}
 use mathlib.Core.Path.{◌≡◌, refl, sym, ap, ◌∙◌}
 use Rattle.std.proofs.Common.{◌≢◌}
-use mathlib.Core.Bool.{Bool, true, false}
+use mathlib.Core.Bool.{Bool, true, false, ◌||◌, true≢false}
 use mathlib.Core.List.{List, [], ◌∷◌, ◌++◌, map}
 use lib.Dec.{eqb}
 use borrow.Author.Tests.{ne_eqb}
@@ -33,6 +33,22 @@ use Rattle.hall.specs.declared.View.{View}
 use Rattle.settling.specs.declared.Turn.{Turn}
 use Rattle.settling.specs.Turns.{found, member_number}
 
+-- does a number end a turn?
+abbrev pub ends : ℕ → Bool
+ends n = eqb n 0 || eqb n 40
+
+-- a number that ends a turn ends it, whatever comes later
+pub tried-ends : (n : ℕ) (w : Words) (later : model.Turn) → ends n ≡ true → tried n w later ≡ tried n w none
+unfolding tried
+tried-ends n w later = go (eqb n 0) (eqb n 40)
+  where
+    go : (s t : Bool) → (s || t) ≡ true
+        → ◌≡◌ {A = model.Turn} (elim s [ true ↦ takes w | false ↦ elim t [ true ↦ full | false ↦ later ] ])
+        (elim s [ true ↦ takes w | false ↦ elim t [ true ↦ full | false ↦ none ] ])
+    go true t e = refl
+    go false true e = refl
+    go false false e = absurd (true≢false (sym e))
+
 -- ## A call tried
 
 -- only one refusal has number 40
@@ -60,7 +76,7 @@ is-full NotPrimary e = absurd (omega arith)
 is-full Undo e = absurd (omega arith)
 
 -- after a number that is neither 0 nor 40 the later calls are tried
-tried-passes : (n : ℕ) (w : Words) (later : model.Turn) → n ≢ 0 → n ≢ 40 → tried n w later ≡ later
+pub tried-passes : (n : ℕ) (w : Words) (later : model.Turn) → n ≢ 0 → n ≢ 40 → tried n w later ≡ later
 unfolding tried
 tried-passes n w later x y = rw (ne_eqb n 0 x, ne_eqb n 40 y, tried) refl
 

@@ -1,24 +1,26 @@
 -- A step on bytes, call by call: 11, 31, 12 to 15, then the kind. Assumes nothing.
-use Prim.Native.Nat.{ℕ}
+use Prim.Native.Nat.{ℕ, ◌≤◌, ◌<◌}
 use native.Mathlib.Omega.{arith}
 use mathlib.Core.Path.{◌≡◌, refl, sym, ap, subst, ◌∙◌}
 use mathlib.Core.Bool.{Bool, true, false, not}
 use mathlib.Core.List.{List}
-use lib.Dec.{eqb}
-use borrow.Author.Tests.{eq-eqb, ne_eqb}
+use lib.Dec.{eqb, leb}
+use borrow.Author.Tests.{eq-eqb, ne_eqb, leb-true, leb-false}
 use Rattle.std.specs.Prelude.{Result, Ok, Err, IfOk}
 use Rattle.std.specs.Result.{IsErrAnd, result_and}
 use Rattle.std.proofs.lemmas.Result.{err_from_is_err_and}
 use Rattle.base.specs.Chains.{refuse, ◌⨾◌}
+use Rattle.base.specs.Numbers.{within}
 use Rattle.base.proofs.ChainsLaws.{chain-none}
 use Rattle.base.proofs.Bools.{by_cases}
-use Rattle.model.specs.Kinds.{Kind, KindWord, kind, no_kind, kind_of, input_refusal}
+use Rattle.model.specs.Kinds.{Kind, KindWord, kind, no_kind, kinds, last_kind, kind_of, input_refusal}
 use Rattle.model.specs.Answers as model
 use Rattle.model.specs.Call.{words_of}
 use Rattle.model.specs.declared.kinds.Kind as code
 use Rattle.model.specs.declared.refusals.Refusal.{Refusal}
 use Rattle.model.specs.KindNumbers.{kind_meaning, kind_number, Names}
 use Rattle.model.specs.RefusalNumbers.{number, refused_by}
+use Rattle.model.proofs.KindLaws.{names-kind, past-last}
 use Rattle.model.proofs.KindNumbersLaws.{number-names}
 use Rattle.model.proofs.RefusalNumbersLaws.{has-number, ends, exit}
 use Rattle.store.specs.StoredForm.{hall_of, is_stored}
@@ -33,6 +35,35 @@ use Rattle.hall.specs.Acts.{Judged, number_on, Does}
 use Rattle.step.specs.Numbers.{word_kind_number, bytes_number}
 
 -- ## 11 and 31
+
+number-of : KindWord → ℕ
+number-of w = elim w [ kind κ ↦ 0 | no_kind ↦ 11 ]
+
+number-low : (k : ℕ) → k < 1 → 11 ≡ word_kind_number k
+unfolding word_kind_number kind_of kinds number-of
+number-low k l = let z : k ≡ 0 = omega arith in sym (ap (λ j. number-of (kind_of j)) z)
+
+number-high : (k : ℕ) → last_kind < k → 11 ≡ word_kind_number k
+unfolding word_kind_number number-of
+number-high k l = sym (ap number-of (past-last k l))
+
+number-kind : (k : ℕ) → 1 ≤ k → k ≤ last_kind → 0 ≡ word_kind_number k
+unfolding word_kind_number number-of
+number-kind k low high = sym (ap number-of (names-kind k low high).1)
+
+-- 11 just where a number is not 1 to the last kind's
+pub number-test : (k : ℕ) → refuse (not (within 1 last_kind k)) 11 ≡ word_kind_number k
+unfolding refuse within
+number-test k =
+    by_cases (leb 1 k)
+    (λ t. by_cases (leb k last_kind) (λ u. rw (t, u, within) (number-kind k (leb-true 1 k t) (leb-true k last_kind u))) (λ u. rw (t, u, within) (number-high k (leb-false k last_kind u))))
+    (λ t. rw (t, within) (number-low k (leb-false 1 k t)))
+
+pub kind-range : (k : ℕ) → word_kind_number k ≡ 0 → (1 ≤ k) × (k ≤ last_kind)
+kind-range k e =
+    let low : k < 1 → ⊥ = λ l. let z : ◌≡◌ {A = ℕ} 11 0 = number-low k l ∙ e in omega arith in
+    let high : last_kind < k → ⊥ = λ l. let z : ◌≡◌ {A = ℕ} 11 0 = number-high k l ∙ e in omega arith in
+    (omega arith, omega arith)
 
 pub bytes-hall : (bs : List ℕ) → is_stored bs ≡ true → 0 ≡ bytes_number bs
 unfolding bytes_number
@@ -121,6 +152,14 @@ module _ (bs : List ℕ) (k r a b : ℕ) where
   unfolding by_kind
   kind-is f = step_is no_kind (is_stored bs) f refl
 
+  -- 31
+  pub bytes-refused : 1 ≤ k → k ≤ last_kind → (why : Refusal) → number why ≡ bytes_number bs → Steps bs k r a b (Err why) bs
+  unfolding by_kind
+  bytes-refused low high why e =
+      let κ = names-kind k low high in
+      let t = bytes-stop bs why e in
+      gives (give (model.refused (number why)) bs) (Err why) bs (step_is (kind κ.0) false κ.1 t.0 ∙ (λ i. give (model.refused (sym t.1 i)) bs)) refl refl
+
   -- of a kind, on bytes that hold a hall
   module _ (κ : Kind) (f : kind_of k ≡ kind κ) (s : is_stored bs ≡ true) where
     is-act : step_on bs (words_of k r a b) ≡ act_on bs κ r a b
@@ -140,6 +179,9 @@ module _ (bs : List ℕ) (k r a b : ℕ) where
     words-is why m size e =
         let e' : number why ≡ input_refusal (hall_of bs).size κ r a b = e ∙ ap (λ n. input_refusal n κ r a b) size in
         is-act ∙ act-is false (ne_eqb _ 0 (λ z. has-number why (e' ∙ z))) ∙ (λ i. give (model.refused (sym e' i)) bs)
+
+    pub words-refused : (why : Refusal) → number why ≡ input_refusal (hall_of bs).size κ r a b → Steps bs k r a b (Err why) bs
+    words-refused why e = gives (give (model.refused (number why)) bs) (Err why) bs (words-is why (hall_of bs).size refl e) refl refl
 
     pub judged : (m : ℕ) → m ≡ (hall_of bs).size → 0 ≡ input_refusal m κ r a b → Judged bs κ r a b
     judged m size z = record { holds = s; words = sym (z ∙ ap (λ n. input_refusal n κ r a b) size) }

@@ -3,7 +3,7 @@
 use Prim.Native.Nat.{ℕ, ◌+◌, ◌^◌, ◌≤◌, ◌<◌}
 use native.Mathlib.Omega.{arith}
 use mathlib.Core.Path.{◌≡◌, refl, sym, ap, ap₂, ◌∙◌, subst}
-use mathlib.Core.Bool.{Bool, true, false, true≢false}
+use mathlib.Core.Bool.{Bool, true, false, true≢false, not}
 use mathlib.Core.List.{List, [], ◌∷◌}
 use mathlib.Core.Option.{some}
 use lib.ListN.{length, take, drop, take-append-drop}
@@ -12,7 +12,9 @@ use borrow.Author.Tests.{leb-true}
 use Rattle.std.specs.Prelude.{Result}
 use Rattle.std.specs.Result.{IsErrAnd}
 use Rattle.base.specs.Lists.{Each}
+use Rattle.base.specs.Chains.{refuse}
 use Rattle.base.proofs.ListsLaws.{each_right}
+use Rattle.base.proofs.ChainsLaws.{first-refuses, first_passes}
 use Rattle.codec.specs.Bytes.{same_bytes}
 use Rattle.codec.specs.Form.{mapped, renamed, guarded}
 use Rattle.codec.specs.Number.{number}
@@ -31,13 +33,14 @@ use Rattle.answer.specs.Meaning.{meaning}
 use Rattle.calls.specs.Calls.{step_on, run_on}
 use Rattle.calls.specs.Steps.{Steps}
 use Rattle.calls.proofs.HeldSteps.{step-answer}
+use Rattle.step.specs.Numbers.{bytes_number}
 use Rattle.undo.specs.declared.Action.{Action}
 use Rattle.undo.specs.Buffer.{Slot, part_form, words_form, slot_form, held_in, newest_of, popped, put_back}
 use Rattle.undo.specs.Code.{action_of, Holding}
 use Rattle.undo.proofs.BufferLaws.{held-slots, newest-last}
 use Rattle.undo.proofs.Rooms.{ended}
 use Rattle.settling.proofs.CopyLaws.{whole-written, run-copy}
-use Rattle.stepback.specs.Held.{bench_of, leads, restored_by, can_step_back, SteppedBack, back_number}
+use Rattle.stepback.specs.Held.{bench_of, undo_number, leads, restored_by, can_step_back, SteppedBack, back_number}
 use Rattle.stepback.specs.Steps.{StepsBack}
 use Rattle.stepback.proofs.HeldLaws.{back_early, back-made, back-taken}
 
@@ -171,6 +174,26 @@ module _ (b u : List ℕ) (held : is_stored b ≡ true) (i : Holding u) (z : Lis
     unfolding leads
     leads-same a t same =
         same ∙ ap (λ (v : List ℕ). same_bytes v (take stored_length b)) bytes-are ∙ sym (answer-is ∙ rw (old-held, sym accepted-is ∙ a, leads))
+
+-- ## Its number
+
+module _ (b u : List ℕ) where
+  -- 31
+  pub back-broken : (n : ℕ) → n ≡ bytes_number b → (n ≡ 0 → ⊥) → n ≡ back_number (bench_of b u)
+  unfolding back_number
+  back-broken n e ne = e ∙ sym (first-refuses (bytes_number b) _ (λ z. ne (e ∙ z)))
+
+  module _ (n : ℕ) (e : n ≡ bytes_number b) (z : n ≡ 0) (m : ℕ) (f : m ≡ undo_number u) where
+    -- 43
+    pub back-unformed : (m ≡ 0 → ⊥) → m ≡ back_number (bench_of b u)
+    unfolding back_number
+    back-unformed ne = f ∙ sym (first_passes (bytes_number b) _ (sym e ∙ z) ∙ first-refuses (undo_number u) _ (λ y. ne (f ∙ y)))
+
+    -- 43 or none
+    pub back-judged : m ≡ 0 → (t : Bool) → t ≡ can_step_back b (newest_of (held_in u)) → refuse (not t) 43 ≡ back_number (bench_of b u)
+    unfolding back_number
+    back-judged y t is =
+        ap (λ (t : Bool). refuse (not t) 43) is ∙ sym (first_passes (bytes_number b) _ (sym e ∙ z) ∙ first_passes (undo_number u) _ (sym f ∙ y))
 
 -- ## What it leaves
 

@@ -67,6 +67,10 @@ module _ (x : Bench) (w : Words) where
         | false ↦ record { answer = refused (early_number x w); left = x }
       ]
 
+  pub step-early : (early_number x w ≡ 0 → ⊥) → step_held_on x w ≡ record { answer = refused (early_number x w); left = x }
+  unfolding step_held_on step_by
+  step-early ne = ap step_by (ne_eqb (early_number x w) 0 ne)
+
   pub step-made : early_number x w ≡ 0 → step_held_on x w ≡ record { answer = o.answer; left = bench_of o.bytes (held_after x w) }
   unfolding step_held_on step_by
   step-made z = ap step_by (eq-eqb (early_number x w) 0 z)

@@ -34,7 +34,7 @@ use Rattle.pieces.specs.declared.Recorder.{Recorder}
 use Rattle.pieces.specs.Recorders.{recorder_of}
 use Rattle.hall.specs.Acts.{Judged}
 use Rattle.hall.specs.AtRecorder.{recorder_in}
-use Rattle.hall.specs.Parts.{HasRecorder}
+use Rattle.hall.specs.Parts.{HasRecorder, Placed}
 use Rattle.hall.proofs.Acting.{acts, current-placed, view-read}
 use Rattle.hall.proofs.ReadsLaws.{recorder-most}
 use Rattle.undo.specs.Parts.{alone, in_current, waiting_index, places_of, parts}
@@ -48,7 +48,7 @@ module _ (b : List ℕ) (r : ℕ) where
   abbrev es : Entries
   es = (hall_of b).entries
 
-  none-waits : first_of (waiting es r) ≡ none → 0 ≡ waiting_index (hall_of b) r
+  pub none-waits : first_of (waiting es r) ≡ none → 0 ≡ waiting_index (hall_of b) r
   unfolding nth
   none-waits w = sym (ap (λ (xs : List ℕ). nth xs 1 0 - 1) (first-lacks (waiting es r) w))
 
@@ -56,11 +56,11 @@ module _ (b : List ℕ) (r : ℕ) where
     pub waits-low : 1 ≤ e
     waits-low = (first-waiting es r e _ (first-stands (waiting es r) e w)).low
 
-    waits-at : e - 1 ≡ waiting_index (hall_of b) r
+    pub waits-at : e - 1 ≡ waiting_index (hall_of b) r
     unfolding nth
     waits-at = sym (ap (λ (xs : List ℕ). nth xs 1 0 - 1) (first-stands (waiting es r) e w))
 
-    waits-high : is_stored b ≡ true → e - 1 < max_entries
+    pub waits-high : is_stored b ≡ true → e - 1 < max_entries
     waits-high s =
         let first = first-waiting es r e _ (first-stands (waiting es r) e w) in
         omega (arith, first.low, first.high, (hall_of-valid b s).in_range.entries.at_most)
@@ -81,6 +81,14 @@ pub formed-within : {b : List ℕ} {r : ℕ} → HasRecorder b r → (g i : ℕ)
     → i ≡ index_of (hall_of b).service.created g → i < max_views
 formed-within {b} p g i formed at =
     omega (arith, at, index-lt (hall_of b).service.created g formed, (hall_of-valid b p.holds).in_range.views.at_most)
+
+-- R's current view, found at index i by what is read of R
+pub current-found : {b : List ℕ} {r : ℕ} (p : HasRecorder b r) → ((hall_of b).service.current r ≡ 0 → ⊥)
+    → (x : Recorder) → recorder_of x ≡ recorder_in b r → (i : ℕ) → i ≡ index_of (hall_of b).service.created x.current
+    → Placed b r ((hall_of b).service.current r) i
+current-found {b} {r} p ne x k i at =
+    current-placed b p.holds r ((hall_of b).service.current r) i refl ne
+    (at ∙ ap (index_of (hall_of b).service.created) (view-read p (recorder_of x) k))
 
 -- R's current view by what is read of R: it is formed
 pub current-read : {b : List ℕ} {r : ℕ} → HasRecorder b r → ((hall_of b).service.current r ≡ 0 → ⊥)
@@ -137,6 +145,14 @@ module _ {b : List ℕ} (k : code.Kind) {r a d : ℕ} (p : Accepts b (words_of (
 
   pub of-kind : (κ : code.Kind) → k ≡ κ → OfKind b (words_of (kind_number k) r a d) (kind_meaning κ)
   of-kind κ e = subst (OfKind b (words_of (kind_number k) r a d)) (its-kind ∙ ap kind_meaning e) as-performed
+
+  -- a kind that acts at a recorder
+  module _ (used : (uses (kind_meaning k)).r ≡ Use.recorder) where
+    pub has-recorder : HasRecorder b r
+    has-recorder = acts used (of-kind k refl).judged
+
+    pub recorder-range : (1 ≤ r) × (r ≤ max_recorders)
+    recorder-range = recorder_range has-recorder
 
   -- 2
   pub label-recorder : k ≡ Label → HasRecorder b r

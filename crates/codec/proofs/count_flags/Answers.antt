@@ -1,15 +1,12 @@
 -- Each flag in turn adds 1 or 0. Assumes nothing.
-use Prim.Native.Nat.{ℕ}
 use native.Mathlib.Omega.{arith}
-use native.Mathlib.Numerals.{add-one}
 use mir.Val.{bool_byte}
 use mathlib.Core.Bool.{Bool, true, false}
 use mathlib.Core.Path.{◌≡◌, refl, sym, ap, ◌∙◌}
-use Rattle.base.specs.Lists.{bit, count_of}
-use Rattle.base.specs.Numbers.{up_to}
+use Rattle.base.specs.Lists.{bit}
 use Rattle.base.proofs.ListsLaws.{bit-small}
 use Rattle.codec.specs.Flags.{set_of}
-use Rattle.codec.proofs.FlagsLaws.{count-more}
+use Rattle.codec.proofs.FlagsLaws.{count_none, count-more}
 use Rattle.codec.proofs.count_flags.Goals as goal
 
 byte-bit : (t : Bool) → bool_byte t ≡ bit t
@@ -17,8 +14,7 @@ byte-bit true = refl
 byte-bit false = refl
 
 pub loop-i-init : goal.loop-i-init
-unfolding count_of up_to
-loop-i-init c = record { within = omega arith; small = omega arith; sum = refl }
+loop-i-init c = record { within = omega arith; small = omega arith; sum = sym (count_none (set_of c.args.row.now)) }
 
 pub loop-i-preserved : goal.loop-i-preserved
 loop-i-preserved c =
@@ -29,6 +25,5 @@ loop-i-preserved c =
     record {
       within = omega arith;
       small = omega (arith, one, bit-small k.result);
-      sum = omega (arith, l.invariant.sum, one, ap bit k.ensures, ap (λ (j : ℕ). bit (p j)) (add-one l.i), count-more p l.i)
-          ∙ sym (ap (λ (j : ℕ). count_of p (up_to j)) (add-one l.i));
+      sum = omega (arith, l.invariant.sum, one, ap bit k.ensures, count-more p l.i);
     }

@@ -32,7 +32,7 @@ returns-in-Err c =
     lent-refused (written_words o.answer) a.file.now o.bytes a.out.now c.from.result
     (c.from.ensures ∙ sym (ap (λ (z : WriteAnswer). (written_words z).number) w))
     (λ z. has-number c.in-Err.why (sym c.from.ensures ∙ z)) in
-    record { number = l.number; bytes = c.write.ensures.1 ∙ refused-write x a.file.now _ w ∙ l.bytes; answer = l.answer }
+    record { number = l.number; bytes = c.write.ensures.1 ∙ (refused-write x a.file.now _ w).1 ∙ l.bytes; answer = l.answer }
 
 pub returns-in-Ok : goal.returns-in-Ok
 unfolding run_write_lent written_meaning written_words
