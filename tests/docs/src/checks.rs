@@ -58,7 +58,12 @@ const HOMES: [&str; 8] = [
 ];
 
 /// The pages that speak of the past.
-const PAST: [&str; 3] = ["docs/changes.md", "docs/PORT.md", "docs/DESIGN-PASS.md"];
+const PAST: [&str; 4] = [
+    "docs/changes.md",
+    "docs/PORT.md",
+    "docs/DESIGN-PASS.md",
+    "docs/LOOK-BACK.md",
+];
 
 /// The pages that are read: all but those that speak of the past.
 fn is_page(path: &str) -> bool {
