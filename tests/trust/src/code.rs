@@ -137,9 +137,11 @@ fn functions(all: &[Token], owners: &HashMap<usize, String>) -> Vec<Function> {
 /// type.
 fn given(before: &[Token], name: &str) -> Option<Promise> {
     let member = format!("{name}_gives");
-    let start = before
-        .iter()
-        .rposition(|token| without_generics(&token.text) == "impl")?;
+    let is_item = |at: usize| {
+        let starts = at == 0 || matches!(before[at - 1].text.as_str(), "}" | ";" | "]");
+        starts && without_generics(&before[at].text) == "impl"
+    };
+    let start = (0..before.len()).rev().find(|&at| is_item(at))?;
     let inside = &before[start..];
     let at = pairs(inside, "ghost", &member).next()?;
     let open = at + inside[at..].iter().position(|token| token.text == "{")?;

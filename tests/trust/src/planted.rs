@@ -224,6 +224,7 @@ impl<'a> Victims<'a> {
     fn unlisted(&self) -> Vec<Plant> {
         let function = "fn planted(x: u32) -> u32\n    ensures { result ≡ x }\n{\n    x\n}\n";
         let method = "    pub fn planted(self) -> u32\n    {\n        0\n    }\n";
+        let given = "    ghost next_gives = { Given };\n\n    fn next(&mut self) -> u32 {\n        0\n    }\n";
         let append = |text: &str| self.texts.append(&self.code, text);
         vec![
             Plant::fault(
@@ -242,6 +243,11 @@ impl<'a> Victims<'a> {
                 "a public method that the page lacks",
                 append(&format!("impl Planted {{\n{method}}}\n")),
                 &[&self.unlisted_is("Planted::planted")],
+            ),
+            Plant::fault(
+                "a method of a library trait that the page lacks",
+                append(&format!("impl Iterator for Planted {{\n{given}}}\n")),
+                &[&self.unlisted_is("Planted::next")],
             ),
             Plant::fault(
                 "a function of another crate made public",
